@@ -31,8 +31,8 @@ use Rattle.calloop.specs.declared.timeout.WakesTimeout.{WakesTimeout}
 use Rattle.calloop_loop.specs.Askings.{Asks, Runs}
 use Rattle.calloop_loop.specs.Handles.{held_by, IsCase}
 
--- whether a moment has come, by an answer of a clock; where there is none, it never comes: so compares calloop's
--- TimeoutFuture::poll
+-- whether a moment has come, by an answer of a clock; without a moment, it never comes: calloop's TimeoutFuture::poll compares in
+-- the same way
 abbrev pub HasCome : (shows : ℕ → Type 0) → Option Instant → Bool → Type 0
 HasCome shows None come = come ≡ false
 HasCome shows (Some moment) come = (now : ℕ) × shows now × (come ≡ nat_le moment.nanos now)
@@ -41,11 +41,11 @@ abbrev pub is_ready : {T : Type 0} → Poll T → Bool
 is_ready (Ready x) = true
 is_ready Pending = false
 
--- a timer that isn't armed yet, and what it calls
+-- a timer that isn't armed yet, and its callback
 abbrev pub timer_at : {R : Type 0} → Instant → WakesTimeout R → TimeoutTimer R
 timer_at moment wakes = record { timer = record { source = fresh_timer (Some moment); callback = wakes } }
 
--- what wakes the future of this timeout
+-- the callback that wakes the future of this timeout
 abbrev pub IsOf : {C R : Type 0} → TimeoutFuture C R → WakesTimeout R → Type 0
 IsOf made wakes = arc_value wakes.parked ≡ arc_value made.parked
 
@@ -58,7 +58,7 @@ HasTimer {D} {P} {C} {R} M runs O placed moment made old new =
     × (M.role (placed (timer_at moment wakes)) ≡ Timeout)
     × IsCase M runs O (Insert (placed (timer_at moment wakes))) (Inserted (Ok token)) old new
 
--- Its insertion was refused so, or there was no memory for the future before, and the loop is as it was.
+-- Its insertion failed so, or there was no memory for the future before, and the loop is unchanged.
 abbrev pub HasNoTimer : {D P C R X I : Type 0} → Meaning D P (Lent X (Asks D I)) → Runs D I X → Outside P
     → (placed : TimeoutTimer R → D) → Instant → Error
     → LoopHandle D P C R X I → LoopHandle D P C R X I → Type 0
@@ -67,7 +67,7 @@ HasNoTimer {D} {P} {C} {R} M runs O placed moment e old new =
     ⊎ ((back : InsertError D) × (back.error ≡ e) × (wakes : WakesTimeout R)
     × IsCase M runs O (Insert (placed (timer_at moment wakes))) (Inserted (Err back)) old new)
 
--- What comes of making one. Without a moment nothing is inserted, and running out of memory alone refuses it.
+-- The outcome of making one. Without a moment nothing is inserted, and only running out of memory makes it fail.
 abbrev pub IsMade : {D P C R X I : Type 0} → Meaning D P (Lent X (Asks D I)) → Runs D I X → Outside P
     → (placed : TimeoutTimer R → D) → Option Instant → Result (TimeoutFuture C R) Error
     → LoopHandle D P C R X I → LoopHandle D P C R X I → Type 0

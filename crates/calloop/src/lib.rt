@@ -22,8 +22,8 @@
 //!
 //! - Sources: pings (`ping`), timers (`timer`), channels (`channel`), sockets (`generic`, `io`), futures (`futures`, `timeout`), streams
 //!   (`stream`), one's own (`EventSource`), and two as one (`Both`). A loop's type lists those that it can hold, as `OneOf`.
-//! - A callback asks its loop for things by the `Requests` that it is lent. Who owns the loop has a `LoopHandle`; a `LoopSignal` and a
-//!   `Ping` go to other threads.
+//! - A callback asks its loop for things by the `Requests` that it is lent. The owner of the loop has a `LoopHandle`;
+//!   a `LoopSignal` and a `Ping` go to other threads.
 #![tactic(auto)]
 
 pub mod sys;

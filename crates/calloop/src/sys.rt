@@ -1,4 +1,4 @@
-//! What a poller and a clock are, and those that there are. From calloop's `sys.rs`.
+//! The traits of a poller and of a clock, and the ones that there are. From calloop's `sys.rs`.
 pub use calloop_mio as system;
 pub use calloop_poll::sys::{
     Clock, EVENTS_PER_WAIT, Interest, Mode, Poller, Readiness, Watched, events, faults, hub,

@@ -1,7 +1,7 @@
 //! A future that is ready once a moment of the loop's clock has come.
 //!
-//! From calloop's `TimeoutFuture` in `sources/timer.rs`. Like there, it is a timer in a slot, whose token nobody else has; and here
-//! one that is made up names nothing.
+//! From calloop's `TimeoutFuture` in `sources/timer.rs`. Like there, it is a timer in a slot, whose token nobody else has; and
+//! here a token that is made up names nothing.
 ghost use Rattle.std.specs.Prelude.{◌≡◌, true, Some, IfOk, IfErr};
 ghost use Rattle.calloop_slots.specs.declared.error.Error.TheVariants.{OutOfMemory};
 ghost use Rattle.calloop_slots.specs.declared.wheel.Instant.{Instant};
@@ -31,7 +31,7 @@ use std::mem;
 use std::sync::{Arc, Mutex, Wait};
 use std::time::Duration;
 
-// Where a pending future leaves its waker, under a name, which contracts alone see.
+// The place for a pending future's waker, under a name, which contracts alone see.
 #[derive(Drop)]
 struct Parked<R: Wait + Drop> {
     rt: R,
@@ -45,14 +45,14 @@ impl<R: Wait + Drop> Parked<R> {
     }
 }
 
-/// Wakes the future of a timeout, once its moment has come: what the timer of a `TimeoutFuture` calls.
+/// Wakes the future of a timeout, once its moment has come: the callback of a `TimeoutFuture`'s timer.
 #[derive(Drop)]
 pub struct WakesTimeout<R: Wait + Drop> {
     parked: Arc<Parked<R>, Global>,
 }
 
 impl<R: Wait + Drop, X> On<Instant, X, TimeoutAction> for WakesTimeout<R> {
-    /// Wakes the future, where it waits, and has the timer leave the loop.
+    /// Wakes the future, if it waits, and has the timer leave the loop.
     fn on(&mut self, _deadline: Instant, _data: &mut X) -> TimeoutAction
         ensures leaves { result ≡ Drop }
         ensures same { self.new ≡ self.old }
@@ -67,8 +67,8 @@ impl<R: Wait + Drop, X> On<Instant, X, TimeoutAction> for WakesTimeout<R> {
 
 type Wakes<R> = Dispatcher<Timer, WakesTimeout<R>>;
 
-/// The timer of a `TimeoutFuture`, with what it calls. A loop of timeouts has a place for it. It is the loop's own: the calls of a handle
-/// answer for its token as for one that names no source.
+/// The timer of a `TimeoutFuture`, with its callback. A loop of timeouts has a place for it. It is the loop's own: for the calls
+/// of a handle its token names no source.
 #[derive(Drop)]
 pub struct TimeoutTimer<R: Wait + Drop> {
     timer: Wakes<R>,
@@ -190,13 +190,13 @@ impl<P: Poller, C, R: Wait + Drop, X, Q: Asking> Keep<TimeoutTimer<R>, P, C, R, 
 #[derive(Drop)]
 pub struct TimeoutFuture<C: Clock, R: Wait + Drop> {
     clock: C,
-    // None where the moment can't be told.
+    // `None` if the moment can't be told.
     deadline: Option<Instant>,
     parked: Arc<Parked<R>, Global>,
 }
 
 impl<C: Clock, R: Wait + Clone + Drop> TimeoutFuture<C, R> {
-    // A future of this moment, and what is to wake it.
+    // Makes a future of this moment, and what is to wake it.
     fn unarm(
         clock: &C,
         rt: &R,
@@ -224,9 +224,9 @@ impl<C: Clock, R: Wait + Clone + Drop> TimeoutFuture<C, R> {
         Ok((future, wakes))
     }
 
-    /// Ready at this moment, which may have come already. Its timer takes a slot of the loop.
+    /// Makes a future that is ready at this moment, which may have come already. Its timer takes a slot of the loop.
     ///
-    /// The refusals are those of an insertion. No timer stays then.
+    /// Fails as an insertion does. No timer stays then.
     pub fn from_deadline<D, P, N>(
         handle: &mut LoopHandle<'_, D, P, C, R>,
         rt: &R,
@@ -253,9 +253,9 @@ impl<C: Clock, R: Wait + Clone + Drop> TimeoutFuture<C, R> {
         Ok(future)
     }
 
-    /// Ready so much later than the loop's clock shows. Past 2^64 - 1 nanoseconds it takes no slot, and stays pending.
+    /// Makes a future ready this long after the loop's present time. Past 2^64 - 1 nanoseconds it takes no slot, and stays pending.
     ///
-    /// The refusals are those of an insertion. No timer stays then.
+    /// Fails as an insertion does. No timer stays then.
     pub fn from_duration<D, P, N>(
         handle: &mut LoopHandle<'_, D, P, C, R>,
         rt: &R,
@@ -283,7 +283,7 @@ impl<C: Clock, R: Wait + Clone + Drop> TimeoutFuture<C, R> {
 }
 
 impl<C: Clock, R: Wait + Drop> TimeoutFuture<C, R> {
-    // Whether its moment has come.
+    // True if its moment has come.
     fn has_come(&self) -> bool
         ensures { HasCome (C.shows self.now.clock) self.now.deadline result }
     {
@@ -301,7 +301,7 @@ impl<C: Clock, R: Wait + Clone + Drop> Future<R> for TimeoutFuture<C, R> {
 
     ghost gives = { λ future _. HasCome (C.shows future.clock) future.deadline true };
 
-    /// Ready where the clock shows its moment or a later one. Without memory to keep the waker, it asks for another poll at once.
+    /// Ready if the clock shows its moment or a later one. Without memory to keep the waker, it asks for another poll at once.
     fn poll(&mut self, cx: &mut Context<'_, R>) -> Poll<()>
         ensures value { IfReady result
             (λ _. HasCome (C.shows self.old.clock) self.old.deadline true) }

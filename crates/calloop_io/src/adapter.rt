@@ -190,8 +190,8 @@ impl<F: AsRawFd + Drop, P: Poller, C, R: Wait + Drop, X, Q: Asking> Dispatch<P, 
         Err(Failed)
     }
 
-    /// Takes its socket out, if it is being given back. Fails with `InvalidToken` if it isn't, and with `IoError` of kind
-    /// `NotFound` if it is in no loop. An error of the poller is `IoError`, and leaves it registered as it was.
+    /// Takes its socket out, if it is being given back. Fails with `IoError` of kind `NotFound` if it is in no loop, else with
+    /// `InvalidToken` if it isn't being given back. An error of the poller is `IoError`, and leaves it registered as it was.
     fn unregister(&mut self, poll: &mut Poll<P, C, R>, failure: &mut Error) -> Result<(), Failed> {
         store_error(self.give_back(poll), failure)
     }

@@ -23,13 +23,13 @@ BlockedTo {D} {I} {P} {X} M runs O called gives polls first s f x v answer y t =
     (calls : List (LoopCall D P X I)) × (answers : List (LoopAnswer D P X I)) × BlockedRounds called gives polls first s f x calls answers answer y × RunLeads M runs O calls answers v t
 
 module _ {D I P X F S T : Type 0} (M : Meaning D P (Lent X (Asks D I))) (runs : Runs D I X) (O : Outside P) (called : RoundCall F X) (gives : T → Type 0) (polls : Polling S T) where
-  -- a stop of before is forgotten, and its rounds follow
+  -- an earlier stop is forgotten, and the rounds follow
   pub blocked-begun : (s : S) (f : F) (x : X) (v u : View D I P) (answer : Result (Option T) Error) (y : X) (t : View D I P)
       → Did (Case M runs O ForgetStop StopForgotten) v u → BlockedTo M runs O called gives polls true s f x u answer y t → BlocksTo M runs O called gives polls s f x v answer y t
   blocked-begun s f x v u answer y t did (calls, answers, rounds, leads) =
       (calls, answers, rounds, run_first M runs O ForgetStop StopForgotten calls answers v u t did leads)
 
-  -- it is stopped
+  -- the run is stopped
   pub blocked-stopped : (first : Bool) (s : S) (f : F) (x : X) (v u : View D I P) → Did (Case M runs O LookForStop (Stopped true)) v u → BlockedTo M runs O called gives polls first s f x v (Ok None) x u
   blocked-stopped first s f x v u did =
       (LookForStop ∷ [], Stopped true ∷ [], (refl, refl), run_first M runs O LookForStop (Stopped true) [] [] v u u did (run_none M runs O u))
@@ -51,7 +51,7 @@ module _ {D I P X F S T : Type 0} (M : Meaning D P (Lent X (Asks D I))) (runs : 
         (run_first M runs O (Dispatch None x) (Dispatched (Err e) left) [] [] w u u did (run_none M runs O u)),
   )
 
-  -- one more dispatch and call stand before rounds
+  -- another dispatch and call before rounds
   pub blocked-on : (first : Bool) (s s' : S) (f : F) (x : X) (v w : View D I P) (left : X) (u : View D I P) (g : F) (next : X) (answer : Result (Option T) Error) (y : X) (t : View D I P)
       → Did (Case M runs O LookForStop (Stopped false)) v w → PolledOrNot first polls s s' → Did (Case M runs O (Dispatch None x) (Dispatched (Ok tt) left)) w u → called f left tt g next
       → BlockedTo M runs O called gives polls false s' g next u answer y t → BlockedTo M runs O called gives polls first s f x v answer y t

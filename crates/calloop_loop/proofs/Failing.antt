@@ -1,4 +1,4 @@
--- What a dispatch answers as an error comes from its wait or from a source, or no memory was left.
+-- An error of a dispatch comes from its wait or from a source, or no memory was left.
 use Rattle.std.proofs.Common.{◌≡◌, ℕ, List, [], ◌∷◌, Bool, refl, sym, ◌∙◌, Option, Result, Ok, Err, inl, inr}
 use Rattle.std.specs.Prelude.{IfErr}
 use Rattle.std.specs.declared.io.Error.{Error as Cause}
@@ -28,7 +28,7 @@ use Rattle.calloop_loop.specs.Held.{is_listed}
 use Rattle.calloop_loop.specs.Machine.{View, Change, all_viewed}
 use Rattle.calloop_loop.specs.Rules.{Doing, Beginning, Settling, Sleeping, Waiting, Gathering, Noticing, Cutting, Serving, Ending, Returning, Idling, RunningIdles, ServingIdle, Leaving, Outcome, Step, Steps, SleptAs, SleptBy, NoticedBy, CutTo, CutFrom, RegisteredBy, ActedBy, ServedFrom, RunFrom, DispatchedBy, action_of, after_wait, after_turn}
 
--- an answer, of which only an error is in question
+-- an answer, of which only an error matters
 of_error : {A : Type 0} (F : Error → Type 0) (answer : Result A Error) → ((e : Error) → answer ≡ Err e → F e) → IfErr answer F
 of_error F (Ok a) f = tt
 of_error F (Err e) f = f e refl
@@ -45,7 +45,7 @@ module _ {D I P X : Type 0} (M : Meaning D P (Lent X (Asks D I))) (runs : Runs D
   abbrev From : Error → Type 0
   From e = IsOfDispatch M O e
 
-  -- where an error is on its way out, it comes from there
+  -- an error on its way out comes from there
   abbrev IsFounded : Doing D X → Type 0
   IsFounded (Serving token d answer x) = IfErr answer From
   IsFounded (Ending token d answer x) = IfErr answer From

@@ -1,4 +1,4 @@
--- Where the answer under a ticket stands.
+-- The position of the answer under a ticket.
 use Rattle.std.proofs.Common.{◌≡◌, ℕ, zero, suc, ◌<◌, ◌+◌, ◌⊎◌, inl, inr, length, get_or, true, false, if◌then◌else◌, nat_eq, List, [], ◌∷◌, Some, None, slice_get, refl, ap, sym, ◌∙◌, arith}
 use Rattle.calloop_loop.specs.declared.asks.Answered.{Answered}
 use Rattle.calloop_loop.specs.Askings.{answer_under, without, StandsAt}

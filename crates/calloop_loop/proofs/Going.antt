@@ -80,7 +80,7 @@ turn_stays q (Take ticket ∷ ss) = turn_stays (ask_after q (Take ticket)) ss
 turn_kept : {D I : Type 0} (q : Asks D I) (steps : List (AskStep D I)) → record (asks_after q steps) { turn = q.turn } ≡ asks_after q steps
 turn_kept q steps = ap (λ o. record (asks_after q steps) { turn = o }) (sym (turn_stays q steps))
 
--- and is the same whoever's turn it is
+-- and is the same for anyone's turn
 turn_passes : {D I : Type 0} (token : RegistrationToken) (q : Asks D I) (steps : List (AskStep D I)) → asks_after (of_turn token q) steps ≡ of_turn token (asks_after q steps)
 turn_passes token q [] = refl
 turn_passes token q (Write request ∷ ss) = turn_passes token (ask_after q (Write request)) ss
@@ -95,7 +95,7 @@ pub not_in_turn : {D : Type 0} (b : Bool) (d e : D) → Some e ≡ (if b then No
 not_in_turn true d e h = cc
 not_in_turn false d e h = (refl, cc)
 
--- what a token names is full
+-- a slot that a token names is full
 pub full_named : {D : Type 0} (slots : List (Slot D)) (token : RegistrationToken) → is_empty (content_at slots token) ≡ false → IsFull slots token.slot
 full_named slots token e = let s = named_slot slots token e in (s.0, s.1, sym (ap is_empty s.3) ∙ e)
 
@@ -253,7 +253,7 @@ module _ {D I P X : Type 0} (M : Meaning D P (Lent X (Asks D I))) (runs : Runs D
       → Goes M runs O (Ending token d answer x) (Returning token d told x) v (still_v v)
   acted token v d answer told x h = goes_by (Ending token d answer x) (Returning token d told x) (Holds (Pend Continue) ∷ []) v (still_v v) (d, told, h, refl) (tt, tt) refl
 
-  -- one with steps of the source
+  -- a post action with steps of the source
   pub acted_with : (R : D → Outcome → List (PollStep P) → D → Type 0) (entry : D → Outcome → HeldStep D I) (token : RegistrationToken) (v u : View D I P) (d e : D) (answer : Result PostAction Error) (told : Outcome) (x : X)
       → ((steps : List (PollStep P)) → R d told steps e → ActedBy M token d (action_of answer v.held.pending) v (Holds (Pend Continue) ∷ Polls steps ∷ Holds (entry d told) ∷ []) e told)
       → ByOne O R entry d told e (still_v v) u
@@ -271,7 +271,7 @@ module _ {D I P X : Type 0} (M : Meaning D P (Lent X (Asks D I))) (runs : Runs D
   emptied_view token v (Source d) = refl
   emptied_view token v InTurn = refl
 
-  -- the one that empties the slot
+  -- the post action that empties the slot
   pub acted_leaving : (token : RegistrationToken) (v : View D I P) (d : D) (answer : Result PostAction Error) (x : X) → action_of answer v.held.pending ≡ Ok Remove
       → Goes M runs O (Ending token d answer x) (Returning token d (Ok tt) x) v (record (still_v v) { slots = after_turn Vacant token v.slots })
   acted_leaving token v d answer x is =
@@ -296,7 +296,7 @@ module _ {D I P X : Type 0} (M : Meaning D P (Lent X (Asks D I))) (runs : Runs D
   gone_by token v d e (Source f) answer kept steps none h = (e, answer, kept, steps, h, refl)
   gone_by token v d e InTurn answer kept steps none h = cc
 
-  -- it left the loop
+  -- the source left the loop
   pub gone : (token : RegistrationToken) (v u : View D I P) (d e : D) (told answer : Outcome) (kept : Bool) (es : List Error) (x : X) → is_in_turn (content_at v.slots token) ≡ false
       → ByOne O (λ f a steps g. M.does f v.poll (Unregistered a) steps g) (unlisting_of token) d answer e v u → es ≡ with_warning kept answer u.held.warnings
       → Goes M runs O (Returning token d told x) (after told x) v (record u { held = held_after (record u.held { warnings = es }) (Paid (RemovedAnswer (Some e))) })
@@ -306,7 +306,7 @@ module _ {D I P X : Type 0} (M : Meaning D P (Lent X (Asks D I))) (runs : Runs D
       (ap (λ (l : List Error). record u { held = held_after (record u.held { warnings = l }) (Paid (RemovedAnswer (Some e))) }) now
       ∙ ap (λ (t : View D I P). record t { held = held_after (held_after t.held (Warned kept answer)) (Paid (RemovedAnswer (Some e))) }) r.3)
 
-  -- one that is told of a wait was taken out and put back
+  -- a source that is told of a wait was taken out and put back
   abbrev pub told : RegistrationToken → D → View D I P → View D I P
   told token e v = record v { slots = ended (Source e) token (with_change (with_content InTurn) v.slots token.slot) }
 
@@ -335,7 +335,7 @@ module _ {D I P X : Type 0} (M : Meaning D P (Lent X (Asks D I))) (runs : Runs D
   slept timeout token later v x d e given answer joined b is does joins fit =
       told_by (Sleeping timeout (token ∷ later) x) b token v d e joined is (rw is (e, given, answer, joined, does, joins, refl)) fit
 
-  -- what it asks for joins the batch
+  -- the events that it asks for join the batch
   appends_fit : (given : List (Readiness × Token)) (u : View D I P) → AllFit O u (appends given)
   appends_fit [] u = tt
   appends_fit (e ∷ es) u = (refl, appends_fit es (after_change u (Appended (own_event e))))

@@ -1,4 +1,4 @@
--- Insertions, and what else is asked of one source.
+-- Insertions, and other calls of one source.
 use Rattle.std.proofs.Common.{Bool, ◌≡◌, ◌<◌, ◌^◌, ◌-◌, IfOk, IfErr, Result, ℕ, zero, suc, List, [], ◌∷◌, refl, ap, sym, ◌∙◌, subst, false, None, Some, Ok, Err, inl, inr}
 use Rattle.logbook.specs.Pages.{Book}
 use Rattle.calloop_slots.specs.Widths.{most_slots}
@@ -33,7 +33,7 @@ use Rattle.calloop_loop.proofs.Roles.{only_source}
 use Rattle.calloop_loop.specs.Registering.{loop_call_of, loop_answer_of}
 use Rattle.calloop_loop.specs.Rules.{Did, Case, Once, Outcome, ByOne, RegisteredBy, listing_of, unlisting_of, CannotInsert, InsertedBy, EnabledBy, UpdatedBy, DisabledBy, RemovedBy, RemovedIn, ReleasedBy, ExchangedIn, ExchangedBy, IdleInsertedBy, AskedIn, factory_of}
 
--- what is put into a slot last stands there
+-- a slot holds what is put into it last
 pub changed_twice : {D : Type 0} (c d : Content D) (ss : List (Slot D)) (i : ℕ) → with_change (with_content c) (with_change (with_content d) ss i) i ≡ with_change (with_content c) ss i
 changed_twice c d [] i = refl
 changed_twice c d (s ∷ ss) zero = refl
@@ -174,7 +174,7 @@ module _ {D I P X : Type 0} (M : Meaning D P (Lent X (Asks D I))) (runs : Runs D
       let stands : StandsIn v.slots token.slot old = (s.0, s.1, sym s.3 ∙ there) in
       one_step (ExchangedBy M token new (Ok old)) (Swapped token.slot old new ∷ []) (record v { slots = with_change (with_content (Source new)) v.slots token.slot }) (rw is (refl, refl)) (stands, tt) refl
 
-  -- whatever is written where a source was lent
+  -- whatever is written to a source that was lent
   pub written_back : {B : Type 0} (token : RegistrationToken) (answer : Result B Error) (lent : B → D) → IfOk answer (λ b. only (is_callers M) (content_at v.slots token) ≡ Source (lent b))
       → IfOk answer (λ b. (written : D) → Did (Case M runs O (Exchange token written) (Exchanged (Ok (lent b)))) v (record v { slots = with_change (with_content (Source written)) v.slots token.slot }))
   written_back token (Ok b) lent is = λ written. exchanged token (lent b) written is

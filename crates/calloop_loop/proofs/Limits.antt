@@ -1,4 +1,4 @@
--- Of the limits of those that are told of waits: no settling and no telling raises them.
+-- The limits of the sources that are told of waits: no settling and no telling raises them.
 use Rattle.std.proofs.Common.{◌≡◌, ℕ, zero, suc, ◌+◌, ◌<◌, ◌≤◌, List, [], ◌∷◌, filter, refl, ap, sym, ◌∙◌, subst, arith, Some, None, Option, Ok, Bool, true, false, if◌then◌else◌, nat_eq, slice_get}
 use Rattle.calloop_slots.specs.declared.list.Content.{Content}
 use Rattle.calloop_slots.specs.declared.list.Content.TheVariants.{Vacant, Source, InTurn}
@@ -21,7 +21,7 @@ not_less zero (suc m) h = absurd (h (omega arith))
 not_less (suc n) (suc m) h = (let less = not_less n m (λ l. h (omega (arith, l))) in omega (arith, less))
 
 module _ {D P T : Type 0} (M : Meaning D P T) where
-  -- what is put into a slot, with no greater limit than what stood there, raises none
+  -- a new content of a slot, with no greater limit than the old content, raises none
   at_place : (slots : List (Slot D)) (i k version : ℕ) (c : Content D)
       → ((s : Slot D) → slice_get slots i ≡ Some s → limit_in M c ≤ limit_in M s.content)
       → limit_in M (content_under version (slice_get (with_change (with_content c) slots i) k)) ≤ limit_in M (content_under version (slice_get slots k))
@@ -45,7 +45,7 @@ module _ {D P T : Type 0} (M : Meaning D P T) where
       let here = at_place slots token.slot t.slot t.version c (λ s at. subst (λ (x : Slot D). limit_in M c ≤ limit_in M x.content) (same_there slots token.slot there.0 s there.1 at) (rw content less)) in
       omega (arith, here, put_limits slots token d c is less ts)
 
-  -- a source was taken out, and this stands there now
+  -- a source was taken out, and this is there now
   pub ended_limits : (slots : List (Slot D)) (token : RegistrationToken) (d : D) (c : Content D) → content_at slots token ≡ Source d → limit_in M c ≤ M.limit d
       → (ts : List RegistrationToken) → all_limits M (after_turn c token (with_change (with_content InTurn) slots token.slot)) ts ≤ all_limits M slots ts
   ended_limits slots token d c is less ts =
@@ -60,7 +60,7 @@ module _ {D P T : Type 0} (M : Meaning D P T) where
       elim (p t) as (λ b. all_limits M slots (if b then t ∷ filter p ts else filter p ts) ≤ limit_in M (content_at slots t) + all_limits M slots ts)
       [ true ↦ omega (arith, rest) | false ↦ omega (arith, rest) ]
 
-  -- what is settled and stays has the limit that it had
+  -- an adapter that is settled and stays has the limit that it had
   pub settled_limit : (O : Outside P) → KeepsLimit M → (r : Role) (token : RegistrationToken) (s t : D) (v w : PollView P) → Settles r O M token None s v t w → M.limit t ≡ M.limit s
   settled_limit O k Caller token s t v w h = ap M.limit h.1
   settled_limit O k Timeout token s t v w h = ap M.limit h.1

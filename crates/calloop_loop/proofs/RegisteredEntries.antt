@@ -1,4 +1,4 @@
--- What becomes of the entry of a source whose registration was tried.
+-- The lifecycle entry after an attempted registration.
 use Rattle.std.proofs.Common.{◌≡◌, Bool, true, false, ◌&&◌, List, refl, ap, if◌then◌else◌}
 use Rattle.calloop_slots.specs.declared.token.RegistrationToken.{RegistrationToken}
 use Rattle.calloop_loop.specs.Held.{Held, Listed, with_listing, held_after}

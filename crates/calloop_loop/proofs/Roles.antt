@@ -1,4 +1,4 @@
--- What the calls of a handle see in a slot stands there.
+-- What the calls of a handle see in a slot is there.
 use Rattle.std.proofs.Common.{◌≡◌, ◌↔◌, ◌∙◌, refl, sym, ap, subst, IfOk, Result, Err}
 use Rattle.calloop_slots.specs.declared.error.Error.{Error}
 use Rattle.std.specs.Prelude.{Bool, true, false, List, Option, Some, None, Ok, is_some}
@@ -23,7 +23,7 @@ only_source p Vacant d h = cc
 only_source p InTurn d h = cc
 only_source p (Source e) d h = when_source (p e) e d h
 
--- a source that is seen there stands there
+-- a source that is seen there is there
 abbrev pub Shows : {D : Type 0} → List (Slot D) → RegistrationToken → Content D → Type 0
 Shows {D} slots token c = (d : D) → c ≡ Source d → content_at slots token ≡ Source d
 
@@ -74,6 +74,6 @@ pub lent_there : {D B : Type 0} (p : D → Bool) (c : Content D) (answer : Resul
 lent_there p c (Ok b) lent seen there = seen_there p c (lent b) seen there
 lent_there p c (Err e) lent seen there = tt
 
--- and refused there for the same reason
+-- and fails there for the same reason
 pub refused_there : {D : Type 0} (p : D → Bool) (c : Content D) (R : Type 0) → true ≡ is_some (source_of (only p c)) → R ↔ (source_of c ≡ None) → R ↔ (source_of (only p c) ≡ None)
 refused_there p c R seen h = (λ r. sym (none_seen p c (h.0 r)), λ none. (let bad : true ≡ false = seen ∙ ap (λ o. is_some o) none in cc))

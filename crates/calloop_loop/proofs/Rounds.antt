@@ -22,13 +22,13 @@ RoundsTo {D} {I} {P} {X} M runs O called timeout f x v answer y t =
     (calls : List (LoopCall D P X I)) × (answers : List (LoopAnswer D P X I)) × Rounds called timeout f x calls answers answer y × RunLeads M runs O calls answers v t
 
 module _ {D I P X F : Type 0} (M : Meaning D P (Lent X (Asks D I))) (runs : Runs D I X) (O : Outside P) (called : RoundCall F X) (timeout : Option Duration) where
-  -- a stop of before is forgotten, and its rounds follow
+  -- an earlier stop is forgotten, and the rounds follow
   pub runs-begun : (f : F) (x : X) (v u : View D I P) (answer : Result (Unit {0}) Error) (y : X) (t : View D I P)
       → Did (Case M runs O ForgetStop StopForgotten) v u → RoundsTo M runs O called timeout f x u answer y t → RunsTo M runs O called timeout f x v answer y t
   runs-begun f x v u answer y t did (calls, answers, rounds, leads) =
       (calls, answers, rounds, run_first M runs O ForgetStop StopForgotten calls answers v u t did leads)
 
-  -- it is stopped
+  -- the run is stopped
   pub runs-stopped : (f : F) (x : X) (v u : View D I P) → Did (Case M runs O LookForStop (Stopped true)) v u → RoundsTo M runs O called timeout f x v (Ok tt) x u
   runs-stopped f x v u did =
       (LookForStop ∷ [], Stopped true ∷ [], (refl, refl), run_first M runs O LookForStop (Stopped true) [] [] v u u did (run_none M runs O u))
@@ -44,7 +44,7 @@ module _ {D I P X F : Type 0} (M : Meaning D P (Lent X (Asks D I))) (runs : Runs
         (run_first M runs O (Dispatch timeout x) (Dispatched (Err e) left) [] [] s u u did (run_none M runs O u)),
   )
 
-  -- one more dispatch and call stand before rounds
+  -- another dispatch and call before rounds
   pub runs-on : (f : F) (x : X) (v s : View D I P) (left : X) (u : View D I P) (g : F) (next : X) (answer : Result (Unit {0}) Error) (y : X) (t : View D I P)
       → Did (Case M runs O LookForStop (Stopped false)) v s → Did (Case M runs O (Dispatch timeout x) (Dispatched (Ok tt) left)) s u → called f left tt g next
       → RoundsTo M runs O called timeout g next u answer y t → RoundsTo M runs O called timeout f x v answer y t

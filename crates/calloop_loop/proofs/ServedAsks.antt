@@ -1,4 +1,4 @@
--- What callbacks asked for is carried out, one after the other.
+-- The requests of callbacks are carried out, one after the other.
 use Rattle.std.proofs.Common.{◌≡◌, ℕ, suc, ◌+◌, ◌<◌, ◌≤◌, length, filter, not, nat_eq, if◌then◌else◌, arith, List, [], ◌∷◌, ◌++◌, refl, rules, ap, sym, ◌∙◌, subst, true, false, Some, None, Option, Result, Ok, Err, inl, inr}
 use Rattle.calloop_slots.specs.declared.error.InsertError.{InsertError}
 use Rattle.calloop_slots.specs.declared.list.Content.{Content}
@@ -140,7 +140,7 @@ module _ {D I P X : Type 0} (M : Meaning D P (Lent X (Asks D I))) (O : Outside P
       let running : (begun_from v.held.asks.written v.held.asks).running ≡ v.held.asks.running = ap (λ (l : List (Asked D I)). (begun_from l v.held.asks).running) is in
       rw h.2 (s.batch, omega (arith, ap (λ (l : List (Asked D I)). length l) left), omega (arith, s.running, ap (λ (l : List (Waiter I)). length l) running))
 
-  -- all of them
+  -- all requests
   pub all_steady : (v : View D I P) (css : List (List (Change D I P))) → AllServed M O v css → ((after_changes v css).poll.batch ≡ v.poll.batch) × (length (after_changes v css).held.asks.running ≤ length v.held.asks.running)
   all_steady v [] h = (refl, omega arith)
   all_steady v (cs ∷ css) h =
@@ -152,7 +152,7 @@ module _ {D I P X : Type 0} (M : Meaning D P (Lent X (Asks D I))) (O : Outside P
   first_from [] v u h = (let e = h.0 in cc)
   first_from (a ∷ as') v u h = (Holds Begun ∷ h.1.0, (h.1.0, h.1.1, refl), (tt, h.1.2), h.1.3)
 
-  -- one before the others
+  -- one request before the others
   pub first_then : (v u t : View D I P) → ServesFirst M O v.held.asks.written true v u → Did (AllServed M O) u t → Did (AllServed M O) v t
   first_then v u t h k =
       let f = first_from v.held.asks.written v u h in
@@ -162,7 +162,7 @@ module _ {D I P X : Type 0} (M : Meaning D P (Lent X (Asks D I))) (O : Outside P
   none_written [] v u h = (refl, h.1)
   none_written (a ∷ as') v u h = (let e = h.0 in cc)
 
-  -- none is left
+  -- no request is left
   pub none_left : (v u : View D I P) → ServesFirst M O v.held.asks.written false v u → Did (AllServed M O) v u
   none_left v u h = (let n = none_written v.held.asks.written v u h in ([], n.0, n.1))
 

@@ -45,7 +45,7 @@ module _ {D I P X : Type 0} (M : Meaning D P (Lent X (Asks D I))) (runs : Runs D
   not_settled timeout token later v x none =
       goes_by M runs O (Settling timeout (token ∷ later) x) (Settling timeout later x) [] v v (none_settled token (only (is_adapter M) (content_at v.slots token)) v none, refl) tt refl
 
-  -- its interest was taken up
+  -- the adapter's interest was taken up
   pub settled : (timeout : Option ℕ) (token : RegistrationToken) (later : List RegistrationToken) (v : View D I P) (x : X) (d e : D) (f : TokenFactory) (p' : PollView P) → only (is_adapter M) (content_at v.slots token) ≡ Source d
       → Does O M d v.poll (Reregistered (fresh_factory token) (Ok tt) f) e p'
       → Goes M runs O (Settling timeout (token ∷ later) x) (Settling timeout later x) v (record v { slots = after_turn (Source e) token (with_change (with_content InTurn) v.slots token.slot); poll = p' })
@@ -59,7 +59,7 @@ module _ {D I P X : Type 0} (M : Meaning D P (Lent X (Asks D I))) (runs : Runs D
       (ap (λ (ss : List (Slot D)). record v { slots = ss; poll = p' }) (turn_ended v.slots token (Source e) full)
       ∙ ap (λ (q : PollView P). record v { slots = with_change (with_content (Source e)) out token.slot; poll = q }) r.2.1)
 
-  -- it was dropped; a failure is a warning, where there is memory for one
+  -- the adapter's `Async` was dropped; a failure is a warning, if there is memory for one
   pub settled_left : (timeout : Option ℕ) (token : RegistrationToken) (later : List RegistrationToken) (v : View D I P) (x : X) (d e : D) (told : Result (Unit {0}) Error) (p' : PollView P) (kept : Bool) (es : List Error)
       → only (is_adapter M) (content_at v.slots token) ≡ Source d → es ≡ with_warning kept told v.held.warnings
       → Does O M d v.poll (Unregistered told) e p'

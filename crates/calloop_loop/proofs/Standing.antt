@@ -1,4 +1,4 @@
--- A turn that leaves its source where it stands is one for which it was taken out and put back.
+-- A turn that leaves its source in its slot is one for which the source was taken out and put back.
 use Rattle.std.proofs.Common.{◌≡◌, ◌∙◌, ℕ, suc, zero, List, [], ◌∷◌, refl, ap, sym, slice_get, Some, Result, Ok, Err, true}
 use Rattle.calloop_slots.specs.declared.error.Error.{Error}
 use Rattle.calloop_slots.specs.declared.list.Content.TheVariants.{Source, InTurn}
@@ -24,13 +24,13 @@ unchanged f [] i x at e = cc
 unchanged f (y ∷ ys) zero x at e = let same : y ≡ x = cc in ap (λ z. z ∷ ys) (ap f same ∙ e ∙ sym same)
 unchanged f (y ∷ ys) (suc i) x at e = ap (λ zs. y ∷ zs) (unchanged f ys i x at e)
 
--- a source that is put back as it was stands where it stood
+-- putting a source back as it was changes nothing
 put_back : {D : Type 0} (ss : List (Slot D)) (token : RegistrationToken) (d : D) → content_at ss token ≡ Source d → with_change (with_content (Source d)) (with_change (with_content InTurn) ss token.slot) token.slot ≡ ss
 put_back ss token d is =
     let s = named_slot ss token (ap is_empty is) in
     changed_twice (Source d) InTurn ss token.slot ∙ unchanged (with_content (Source d)) ss token.slot s.0 s.1 (ap (λ c. with_content c s.0) (sym is ∙ s.3))
 
--- what goes on as it is has nothing pending
+-- a source that goes on as it is has nothing pending
 none_pending : (answer : Result PostAction Error) (pending : PostAction) → action_of answer pending ≡ Ok Continue → pending ≡ Continue
 none_pending (Ok Continue) pending e = cc
 none_pending (Ok Reregister) pending e = cc
@@ -39,7 +39,7 @@ none_pending (Ok Remove) pending e = cc
 none_pending (Err failure) pending e = cc
 
 module _ {D I P X : Type 0} (M : Meaning D P (Lent X (Asks D I))) (runs : Runs D I X) (O : Outside P) where
-  -- one for which nothing is left to do stays where it stands
+  -- a source for which nothing is left to do stays in its slot
   pub stayed : (token : RegistrationToken) (v : View D I P) (d : D) (answer : Result PostAction Error) (x : X) → content_at v.slots token ≡ Source d → v.held.asks.written ≡ [] → action_of answer v.held.pending ≡ Ok Continue
       → Goes M runs O (Serving token d answer x) (Cutting x) (record v { slots = with_change (with_content InTurn) v.slots token.slot }) v
   stayed token v d answer x is none goes =

@@ -1,5 +1,5 @@
--- What callbacks ask of the loop, and what came of it. In calloop a callback holds a handle of its loop; here it writes
--- requests, which are carried out in order when its turn ends, each under a ticket that names its answer.
+-- What callbacks ask of the loop, and the answers. In calloop a callback holds a handle of its loop; here it writes requests,
+-- which are carried out in order when its turn ends, each under a ticket that names its answer.
 use Rattle.std.specs.Prelude.{
   ◌≡◌,
   ℕ,
@@ -60,7 +60,7 @@ pub record Asks (D I : Type 0) : Type 0 where
   -- the source in whose turn requests are lent
   pub turn : Option RegistrationToken
 
--- what callbacks do to them: a request is written under the next ticket, or the answer under a ticket is handed out
+-- what callbacks do to requests: one is written under the next ticket, or the answer under a ticket is handed out
 pub data AskStep (D I : Type 0) : Type 0 where
   Write : (request : Request D I) → AskStep D I
   Take : (ticket : ℕ) → AskStep D I
@@ -74,7 +74,7 @@ abbrev pub without : {D : Type 0} → ℕ → List (Answered D) → List (Answer
 without ticket [] = []
 without ticket (a ∷ as') = if nat_eq a.ticket ticket then as' else a ∷ without ticket as'
 
--- the first answer under a ticket stands in this place
+-- the first answer under a ticket is at this position
 abbrev pub StandsAt : {D : Type 0} → (ticket place : ℕ) → List (Answered D) → Type 0
 StandsAt {D} ticket place answers =
     (a : Answered D) × (slice_get answers place ≡ Some a) × (remove answers place ≡ without ticket answers)
@@ -115,13 +115,13 @@ OnlyAsks {D} {I} q r = (p : Asks D I) → Reaches p q → Reaches p r
 abbrev pub IsAsked : {D I : Type 0} → Request D I → (ticket : ℕ) → Asks D I → Asks D I → Type 0
 IsAsked request ticket q r = (q.next < 2 ^ 64 - 1) × (ticket ≡ q.next) × (r ≡ ask_after q (Write request))
 
--- why none was: every ticket was given, or there is no memory
+-- why no request was: every ticket was given, or there is no memory
 abbrev pub CannotAsk : {D I : Type 0} → Asks D I → Error → Type 0
 CannotAsk q e = ((q.next ≡ 2 ^ 64 - 1) × (e ≡ TooManyTickets)) ⊎ ((q.next < 2 ^ 64 - 1) × (e ≡ OutOfMemory))
 
--- What the loop does to them.
+-- What the loop does to requests.
 
--- as they are lent in the turn of this source; calloop's callbacks aren't told whose turn it is
+-- the requests as they are lent in the turn of this source; calloop's callbacks aren't told whose turn it is
 abbrev pub of_turn : {D I : Type 0} → RegistrationToken → Asks D I → Asks D I
 of_turn token q = record q { turn = Some token }
 
@@ -141,11 +141,11 @@ abbrev pub answers_to : {D : Type 0} → Option ℕ → Answer D → List (Answe
 answers_to None answer = []
 answers_to (Some ticket) answer = record { ticket = ticket; answer = answer } ∷ []
 
--- its answer
+-- the answer of the request that is carried out
 abbrev pub with_answer : {D I : Type 0} → Answer D → Asks D I → Asks D I
 with_answer answer q = record q { answers = q.answers ++ answers_to q.serving answer; serving = None }
 
--- its answer is owed until the turn is over; and what is owed is answered
+-- the answer is deferred to the end of the turn; and what is owed is then answered
 abbrev pub with_answer_owed : {D I : Type 0} → Asks D I → Asks D I
 with_answer_owed q = record q { owed = q.serving; serving = None }
 
@@ -166,7 +166,7 @@ abbrev pub stays_on : {D : Type 0} → (taken_up_at cleared_at last : ℕ) → A
 stays_on taken_up_at cleared_at last a =
     nat_le taken_up_at a.ticket && (nat_le cleared_at a.ticket || nat_lt a.ticket last)
 
--- the others are gone, if they weren't handed out
+-- the other answers are gone, if they weren't handed out
 abbrev pub without_old : {D I : Type 0} → Asks D I → Asks D I
 without_old q =
     record q { answers = filter (stays_on q.taken_up_at q.cleared_at (last_ticket q.idles)) q.answers; cleared_at = q.next }
@@ -177,18 +177,18 @@ abbrev pub idle_under : {I : Type 0} → Option ℕ → I → List (Idling I)
 idle_under None idle = []
 idle_under (Some ticket) idle = record { ticket = ticket; idle = idle } ∷ []
 
--- that of the request that is carried out, which is answered
+-- the idle of the request that is carried out, which is answered
 abbrev pub with_idle : {D I : Type 0} → I → Asks D I → Asks D I
 with_idle idle q = with_answer Done (record q { idles = q.idles ++ idle_under q.serving idle })
 
--- one that no callback asked for
+-- an idle that no callback asked for
 abbrev pub with_new_idle : {D I : Type 0} → I → Asks D I → Asks D I
 with_new_idle idle q = record q { idles = q.idles ++ record { ticket = q.next; idle = idle } ∷ []; next = q.next + 1 }
 
 abbrev pub is_other_idle : {I : Type 0} → (ticket : ℕ) → Idling I → Bool
 is_other_idle ticket i = not (nat_eq i.ticket ticket)
 
--- a cancelled one is in neither list
+-- a cancelled idle is in neither list
 abbrev pub without_idle : {D I : Type 0} → (ticket : ℕ) → Asks D I → Asks D I
 without_idle ticket q =
     record q { idles = filter (is_other_idle ticket) q.idles; running = filter (is_other_idle ticket) q.running }
@@ -205,12 +205,12 @@ abbrev pub running_of : {I : Type 0} → List (Idling I) → Option I
 running_of [] = None
 running_of (i ∷ is) = Some i.idle
 
--- the first one runs
+-- the first idle runs
 abbrev pub idle_begun : {D I : Type 0} → Asks D I → Asks D I
 idle_begun q = record q { running = all_but_first q.running }
 
--- what an idle may do: itself, the data and the requests before it runs, and these two after it; calloop's is a
--- closure, of which nothing is known
+-- what an idle may do: itself, the data and the requests before it runs, and these two after it; calloop's idle is a closure, of
+-- which nothing is known
 abbrev pub Runs : (D I X : Type 0) → Type 1
 Runs D I X = I → X → Asks D I → X → Asks D I → Type 0
 
@@ -233,7 +233,7 @@ abbrev pub debt : Option ℕ → ℕ
 debt None = 0
 debt (Some ticket) = 1
 
--- What is left is proof that an impl cites.
+-- The rest is proof that an impl cites.
 
 asks_after-append : {D I : Type 0} (q : Asks D I) (l m : List (AskStep D I))
     → asks_after q (l ++ m) ≡ asks_after (asks_after q l) m

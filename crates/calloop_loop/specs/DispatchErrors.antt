@@ -1,4 +1,4 @@
--- Which errors a dispatch answers. calloop's dispatch boxes those of sources, and answers the poller's as they are.
+-- The possible errors of a dispatch. calloop's dispatch boxes those of sources, and returns the poller's as they are.
 use Rattle.std.specs.Prelude.{◌≡◌, ◌⊎◌, ℕ, List, Option, Err}
 use Rattle.std.specs.declared.io.Error.{Error as Cause}
 use Rattle.calloop_slots.specs.declared.error.Error.{Error}
@@ -11,7 +11,7 @@ use Rattle.calloop_poll.specs.sys.Pollers.{Outside}
 use Rattle.calloop_poll.specs.sys.Polls.{PollView, PollStep}
 use Rattle.calloop_poll.specs.sys.Waits.{Waited}
 
--- a wait of this poller failed so, and it was no interruption
+-- a wait of this poller failed so, and it wasn't interrupted
 pub record WaitFailed {P : Type 0} (O : Outside P) (e : Error) : Type 0 where
   pub before : PollView P
   pub timeout : Option ℕ

@@ -1,4 +1,4 @@
--- The calls of a loop's handle as calls of the machine. Calloop's handle reaches its loop through a cell; this one is lent it.
+-- The calls of a loop's handle as calls of the machine. Calloop's handle reaches its loop through a cell; this one borrows it.
 use Rattle.std.specs.Prelude.{◌≡◌, ℕ, List, None}
 use Rattle.calloop_slots.specs.declared.token.RegistrationToken.{RegistrationToken}
 use Rattle.calloop_slots.specs.declared.list.Slot.{Slot}
@@ -20,29 +20,29 @@ use Rattle.calloop_loop.specs.Rules.{Case, Did, Leads}
 abbrev pub held_by : {D P C R X I : Type 0} → LoopHandle D P C R X I → View D I P
 held_by h = view_of h.inner.now
 
--- the token names no source of the caller's there: its slot is vacant, was used again since, or holds what is the loop's own; calloop's
--- handle answers so for the first two
+-- the token names no source of the caller's there: its slot is vacant, was used again since, or holds an entry of the loop's own;
+-- calloop's handle answers so for the first two
 abbrev pub NamesNone : {D P C R X I : Type 0} → Meaning D P (Lent X (Asks D I)) → RegistrationToken
     → LoopHandle D P C R X I → Type 0
 NamesNone M token h = source_of (only (is_callers M) (content_at (held_by h).slots token)) ≡ None
 
--- the loop that it is lent, as that is now
+-- the loop that a handle borrows, as it is now
 abbrev pub loop_by : {D P C R X I : Type 0} → LoopHandle D P C R X I → EventLoop D P C R X I
 loop_by h = h.inner.now
 
--- the name of the borrow by which it is lent that
+-- the name of the borrow by which it has the loop
 abbrev pub lent_by : {D P C R X I : Type 0} → LoopHandle D P C R X I → ℕ
 lent_by h = h.inner.ghost_name
 
--- it is lent the very loop that it was lent before
+-- the handle borrows the very loop that it borrowed before
 abbrev pub HasTheSameLoop : {D P C R X I : Type 0} → LoopHandle D P C R X I → LoopHandle D P C R X I → Type 0
 HasTheSameLoop old new = lent_by new ≡ lent_by old
 
--- what its loop holds in its slots
+-- the content of its loop's slots
 abbrev pub slots_by : {D P C R X I : Type 0} → LoopHandle D P C R X I → List (Slot D)
 slots_by h = (held_by h).slots
 
--- its poller
+-- the poller of its loop
 abbrev pub poller_by : {D P C R X I : Type 0} → LoopHandle D P C R X I → P
 poller_by h = h.inner.now.poll.poller
 
@@ -54,11 +54,11 @@ held_with_poller p h = view_of (with_loop_poller p h.inner.now)
 abbrev pub held_with_source : {D P C R X I : Type 0} → RegistrationToken → D → LoopHandle D P C R X I → View D I P
 held_with_source token d h = view_of (with_loop_source token d h.inner.now)
 
--- its clock
+-- the clock of its loop
 abbrev pub clock_by : {D P C R X I : Type 0} → LoopHandle D P C R X I → C
 clock_by h = h.inner.now.poll.clock
 
--- what the loop held and what it holds then are as the machine's case of this call, with this answer, says
+-- what the loop held before and what it holds after are as the machine's case of this call, with this answer, says
 abbrev pub IsCase : {D P C R X I : Type 0} → Meaning D P (Lent X (Asks D I)) → Runs D I X → Outside P
     → LoopCall D P X I → LoopAnswer D P X I → LoopHandle D P C R X I → LoopHandle D P C R X I → Type 0
 IsCase M runs O call answer old new = Did (Case M runs O call answer) (held_by old) (held_by new)

@@ -1,7 +1,7 @@
--- What loop and machine hold alike, beside slots and `Poll`: which registrations are told of waits, what the source in
--- its turn asked for itself, what callbacks asked for, and what the loop warns of. calloop enters a registration again
--- each time, and leaves it there where that fails; here each stands once, in its first place. What it only logs, that a
--- source which leaves can't be unregistered, is kept here for whoever wants to read it.
+-- What loop and machine hold alike, beside slots and `Poll`: which registrations are told of waits, what the source in its turn
+-- asked for itself, what callbacks asked for, and what the loop warns of. calloop enters a registration again each time, and
+-- leaves it there if that fails; here each is listed once, in its first position. calloop only logs that a source which leaves
+-- can't be unregistered; here that is kept for anyone to read.
 use Rattle.std.specs.Prelude.{
   ℕ,
   List,
@@ -65,18 +65,18 @@ abbrev pub is_listed : RegistrationToken → List RegistrationToken → Bool
 is_listed token [] = false
 is_listed token (t ∷ ts) = is_one t token || is_listed token ts
 
--- at the end, unless it stands there
+-- at the end, unless it is listed already
 abbrev pub with_listing : RegistrationToken → List RegistrationToken → List RegistrationToken
 with_listing token ts = if is_listed token ts then ts else ts ++ token ∷ []
 
--- the error of a source that left is kept where there is memory for it
+-- the error of a source that left is kept if there is memory for it
 abbrev pub with_warning : (kept : Bool) → Result (Unit {0}) Error → List Error → List Error
 with_warning kept (Ok u) es = es
 with_warning true (Err e) es = es ++ e ∷ []
 with_warning false (Err e) es = es
 
 pub data HeldStep (D I : Type 0) : Type 0 where
-  -- a registration is entered, where it is needed
+  -- a registration is entered, if that is needed
   Listed : (needed : Bool) (token : RegistrationToken) → HeldStep D I
   Unlisted : (token : RegistrationToken) → HeldStep D I
   -- the source in its turn asked for this
@@ -94,8 +94,7 @@ pub data HeldStep (D I : Type 0) : Type 0 where
   Warned : (kept : Bool) (told : Result (Unit {0}) Error) → HeldStep D I
   -- a stop was forgotten, or looked for
   StopNoted : (note : StopNote) → HeldStep D I
-  -- an idle that a callback asked for, which is answered; one that the loop's caller asked for; and one that is
-  -- cancelled
+  -- an idle that a callback asked for, which is answered; an idle that the loop's caller asked for; and an idle that is cancelled
   IdleIn : (idle : I) → HeldStep D I
   IdleNew : (idle : I) → HeldStep D I
   IdleOut : (ticket : ℕ) → HeldStep D I

@@ -1,5 +1,5 @@
--- The armings of timers, which the machine numbers in the order of their making. calloop keeps nothing of the kind:
--- there an entry of the wheel is all that is known of an arming.
+-- The armings of timers, which the machine numbers in the order of their making. calloop keeps nothing of the kind: there an
+-- entry of the wheel is all that is known of an arming.
 use Rattle.std.specs.Prelude.{ℕ, ◌+◌, List, [], ◌∷◌, ◌++◌, map, filter, Bool, nat_eq, if◌then◌else◌, Option, Some, None}
 use Rattle.calloop_slots.specs.declared.token.Token.{Token}
 use Rattle.calloop_slots.specs.declared.wheel.Entry.{Entry}
@@ -37,7 +37,7 @@ pub record NumberedEntry : Type 0 where
   pub entry : Entry
   pub number : ℕ
 
--- where an event came from: from this arming, which was gathered at this moment, or elsewhere
+-- the origin of an event: this arming, which was gathered at this moment, or something else
 pub data Origin : Type 0 where
   Elsewhere : Origin
   Due : (arming : Arming) (gathered : ℕ) → Origin
@@ -47,8 +47,8 @@ pub record Waiting : Type 0 where
   pub event : Pending
   pub origin : Origin
 
--- a call of a timer's callback: the deadline that it handed out, and the arming that it belongs to, which is the one
--- made last under its counter, if there is any
+-- a call of a timer's callback: the deadline that it handed out, and the arming that it belongs to, which is the last one made
+-- under its counter, if there is any
 pub record TimerCall : Type 0 where
   pub deadline : Instant
   pub arming : Option Arming
@@ -64,7 +64,7 @@ pub record Ledger : Type 0 where
   pub count : ℕ
   pub calls : List TimerCall
 
--- the arming made last under this counter
+-- the last arming made under this counter
 abbrev pub latest : (counter : ℕ) → List Arming → Option Arming
 latest counter [] = None
 latest counter (a ∷ as') = if nat_eq a.counter counter then Some a else latest counter as'
@@ -126,7 +126,7 @@ from_deadline now a = record { event = timer_event a.entry; origin = Due (arming
 abbrev pub is_due_entry : (now : ℕ) → NumberedEntry → Bool
 is_due_entry now a = is_due now a.entry
 
--- those that are due, and what is left behind them
+-- the entries that are due, and what is left behind them
 abbrev pub due_in : (now : ℕ) → List NumberedEntry → List NumberedEntry
 due_in now armed = front (is_due_entry now) armed
 

@@ -1,4 +1,4 @@
--- What a loop becomes where its poller, or a source of it, was lent through a handle.
+-- What a loop becomes when its poller, or a source of it, was lent through a handle.
 use Rattle.calloop_slots.specs.declared.token.RegistrationToken.{RegistrationToken}
 use Rattle.calloop_slots.specs.declared.list.Content.TheVariants.{Source}
 use Rattle.calloop_slots.specs.Slots.{with_change, with_content}

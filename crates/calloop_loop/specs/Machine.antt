@@ -1,5 +1,5 @@
--- The machine of the loop: its state, and the changes of it. What the code holds of the state is a `View`; the state
--- itself also has reuse counts without bound and a ledger of all armings, which calloop keeps nowhere.
+-- The machine of the loop: its state, and the changes of it. What the code holds of the state is a `View`; the state itself also
+-- has reuse counts without bound and a ledger of all armings, which calloop keeps nowhere.
 use Rattle.std.specs.Prelude.{◌≡◌, ℕ, ◌+◌, ◌%◌, List, [], ◌∷◌, ◌++◌, map, Bool, false, Option, Some, None, slice_get}
 use Rattle.std.specs.Arc.{arc_value}
 use Rattle.logbook.specs.Pages.{Book}
@@ -35,7 +35,7 @@ use Rattle.calloop_loop.specs.Askings.{all_handed, no_asks}
 use Rattle.calloop_loop.specs.Ledgers.{Ledger, steps_noted, gathering_noted, appended_noted, cut_noted, new_ledger}
 use Rattle.calloop_loop.specs.declared.EventLoop.{EventLoop}
 
--- a slot: how often it was used again, without bound, and what stands in it
+-- a slot: how often it was used again, without bound, and its content
 pub record Registration (D : Type 0) : Type 0 where
   pub reuse : ℕ
   pub content : Content D
@@ -52,7 +52,7 @@ pub record World (D I P : Type 0) : Type 0 where
   -- the name of the loop's signal, which stays
   pub signal : Book
 
--- what the loop holds of it
+-- the part of the state that the loop holds
 pub record View (D I P : Type 0) : Type 0 where
   pub slots : List (Slot D)
   pub poll : PollView P
@@ -62,7 +62,7 @@ pub record View (D I P : Type 0) : Type 0 where
 abbrev pub slot_of : {D : Type 0} → Registration D → Slot D
 slot_of r = record { version = r.reuse % versions; content = r.content }
 
--- reuse counts are known modulo the versions that there are, and the ledger isn't
+-- reuse counts are known modulo the number of versions, and the ledger isn't known
 abbrev pub visible : {D I P : Type 0} → World D I P → View D I P
 visible w = record { slots = map slot_of w.slots; poll = w.poll; held = w.held; signal = w.signal }
 
@@ -88,7 +88,7 @@ with_marks_taken taken v = record v { poll = marks_taken taken v.poll }
 
 -- every change of the state is one of these
 pub data Change (D I P : Type 0) : Type 0 where
-  -- the first vacant slot is used once more, or a slot is added, for a source that comes into the loop
+  -- the first vacant slot is used again, or a slot is added, for a source that comes into the loop
   Claim : (source : D) → Change D I P
   -- another content is put into a slot that isn't vacant
   Put : (slot : ℕ) (content : Content D) → Change D I P
@@ -106,12 +106,11 @@ pub data Change (D I P : Type 0) : Type 0 where
   Holds : (step : HeldStep D I) → Change D I P
   -- an event that a source asks for before a wait joins the batch
   Appended : (event : Pending) → Change D I P
-  -- the batch is put together, of these posted keys, of what the poller gave, and of the timers that are due at this
-  -- moment
+  -- the batch is put together, of these posted keys, of the poller's events, and of the timers that are due at this moment
   Gathered : (posted : List ℕ) (given : List (ℕ × Readiness)) (now : ℕ) → Change D I P
   -- the first event leaves the batch, for this slot or for none
   Cut : (slot : Option ℕ) → Change D I P
-  -- its turn is over
+  -- the turn of the event is over
   Ended : Change D I P
 
 -- by what is seen
@@ -149,7 +148,7 @@ next_use r = record { reuse = r.reuse + 1; content = InTurn }
 abbrev pub is_free : {D : Type 0} → Registration D → Bool
 is_free r = is_empty r.content
 
--- the first vacant one is used once more, or one is added, for a source that is registered meanwhile
+-- the first vacant slot is used again, or a slot is added, for a source that is registered meanwhile
 abbrev pub with_claim : {D : Type 0} → List (Registration D) → List (Registration D)
 with_claim rs = first_changed is_free next_use (record { reuse = 0; content = InTurn }) rs
 
@@ -172,18 +171,17 @@ abbrev pub world_after_all : {D I P : Type 0} → World D I P → List (Change D
 world_after_all w [] = w
 world_after_all w (c ∷ cs) = world_after_all (world_after w c) cs
 
--- something stands in this slot, or its source is taken out
+-- this slot has a content, or its source is taken out
 abbrev pub IsFull : {D : Type 0} → List (Slot D) → ℕ → Type 0
 IsFull {D} slots i = (s : Slot D) × (slice_get slots i ≡ Some s) × (is_empty s.content ≡ false)
 
--- this source stands in this slot
+-- this source is in this slot
 abbrev pub StandsIn : {D : Type 0} → List (Slot D) → ℕ → D → Type 0
 StandsIn {D} slots i d = (s : Slot D) × (slice_get slots i ≡ Some s) × (s.content ≡ Source d)
 
--- What every change keeps to: a vacant slot stays vacant until it is claimed, what is exchanged stood there, a source's
--- steps can be made, no source makes up a posted event, and posted keys ascend, no more than places
--- were counted. Which they are is the answer of the
--- board, which lies under a lock; calloop has them from the kernel.
+-- The conditions of each change: a vacant slot stays vacant until it is claimed, what is exchanged was there, a source's steps
+-- can be made, no source makes up a posted event, and posted keys ascend, at most as many as places were counted. Which they are
+-- is the answer of the board, which is under a lock; calloop has them from the kernel.
 abbrev pub Fits : {D I P : Type 0} → Outside P → View D I P → Change D I P → Type 0
 Fits O v (Put slot content) = IsFull v.slots slot
 Fits O v (Swapped slot old new) = StandsIn v.slots slot old

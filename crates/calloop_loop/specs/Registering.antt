@@ -14,12 +14,12 @@ use Rattle.calloop_loop.specs.declared.registering.RegistrationCall.{Registratio
 use Rattle.calloop_loop.specs.declared.registering.RegistrationCall.TheVariants.{Enable, Update, Disable}
 use Rattle.calloop_loop.specs.Rules.{Outcome}
 
--- the call of the source that this makes
+-- the call of the source for such a registration
 abbrev pub deed_of : {T : Type 0} → Registering → TokenFactory → Outcome → TokenFactory → Deed T
 deed_of First = Registered
 deed_of Anew = Reregistered
 
--- as a call of the loop, and its answer
+-- such a change as a call of the loop, and its answer
 abbrev pub loop_call_of : {D P X I : Type 0} → RegistrationCall → RegistrationToken → LoopCall D P X I
 loop_call_of Enable token = EnableCall token
 loop_call_of Update token = UpdateCall token
@@ -30,7 +30,7 @@ loop_answer_of Enable answer = Enabled answer
 loop_answer_of Update answer = Updated answer
 loop_answer_of Disable answer = Disabled answer
 
--- as a request
+-- such a change as a request
 abbrev pub request_for : {D I : Type 0} → RegistrationCall → RegistrationToken → Request D I
 request_for Enable token = AskEnable token
 request_for Update token = AskUpdate token

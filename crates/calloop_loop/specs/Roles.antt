@@ -1,5 +1,5 @@
--- Which things in slots the calls of a handle name: the caller's own sources, and not those of the loop. calloop's handle
--- names any slot, and panics where it enables or updates an adapter.
+-- Which entries of slots the calls of a handle name: the caller's own sources, and not those of the loop. calloop's handle names
+-- any slot, and panics if it enables or updates an adapter.
 use Rattle.std.specs.Prelude.{Bool, true, false}
 use Rattle.calloop_slots.specs.declared.list.Content.{Content}
 use Rattle.calloop_slots.specs.declared.list.Content.TheVariants.{Vacant, Source, InTurn}
@@ -28,7 +28,7 @@ abbrev pub when : {D : Type 0} → Bool → D → Content D
 when true d = Source d
 when false d = Vacant
 
--- what stands in a slot, where only those that pass are seen
+-- the content of a slot, if only sources that pass are seen
 abbrev pub only : {D : Type 0} → (D → Bool) → Content D → Content D
 only p Vacant = Vacant
 only p InTurn = InTurn

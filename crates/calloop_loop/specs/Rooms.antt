@@ -2,6 +2,6 @@
 use Rattle.std.specs.Prelude.{◌≡◌, ◌<◌, Bool, true, vec_len, vec_capacity}
 use Rattle.calloop_loop.specs.declared.lifecycle.Lifecycle.{Lifecycle}
 
--- for one registration more, where it is needed
+-- for another registration, if needed
 abbrev pub HasRoom : (needed : Bool) → Lifecycle → Type 0
 HasRoom needed l = needed ≡ true → vec_len l.tokens < vec_capacity l.tokens

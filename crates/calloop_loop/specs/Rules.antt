@@ -1,6 +1,6 @@
--- The rules of the loop: which changes each call may make. A rule speaks of what the loop holds before, and allows
--- lists of changes; what source, poller and callback answer, it leaves open. In calloop these are the calls of
--- LoopHandle and EventLoop, in loop_logic.rs.
+-- The rules of the loop: which changes each call may make. A rule speaks of what the loop holds before, and allows lists of
+-- changes; it leaves open the answers of source, poller and callback. In calloop these are the calls of LoopHandle and EventLoop,
+-- in loop_logic.rs.
 use Rattle.std.specs.Prelude.{
   ◌≡◌,
   ℕ,
@@ -163,7 +163,7 @@ use Rattle.calloop_loop.specs.Machine.{
 abbrev pub factory_of : RegistrationToken → TokenFactory
 factory_of t = record { registration = t; given = 0 }
 
--- what a source answers to its registration and to what follows it
+-- the answers of a source to its registration and to what follows it
 abbrev pub Outcome : Type 0
 Outcome = Result (Unit {0}) Error
 
@@ -171,8 +171,8 @@ abbrev pub is_done : Outcome → Bool
 is_done (Ok u) = true
 is_done (Err e) = false
 
--- a registration, the first one or anew, under this token, with a factory that has given none; one that is to be told
--- of waits, and isn't listed yet, is refused where there is no room for its entry, and is then as it was
+-- a registration, the first one or anew, under this token, with a factory that has given none; if a source is to be told of
+-- waits, and isn't listed yet, it fails when there is no room for its entry, and the source is then as it was
 abbrev pub RegisteredBy : {D I P X : Type 0} → Meaning D P (Lent X (Asks D I))
     → (TokenFactory → Outcome → TokenFactory → Deed (Lent X (Asks D I))) → RegistrationToken → (listed : Bool) → PollView P
     → D → Outcome → List (PollStep P) → D → Type 0
@@ -180,12 +180,12 @@ RegisteredBy M deed token listed v d answer steps e =
     ((M.needs d ≡ true) × (answer ≡ Err OutOfMemory) × (steps ≡ []) × (e ≡ d) × (listed ≡ false))
     ⊎ ((f : TokenFactory) × M.does d v (deed (factory_of token) answer f) steps e)
 
--- a registration that succeeds enters what is to be told of waits
+-- a registration that succeeds lists a source that is to be told of waits
 abbrev pub listing_of : {D I P X : Type 0} → Meaning D P (Lent X (Asks D I)) → RegistrationToken → D → Outcome
     → HeldStep D I
 listing_of M token d answer = Listed (M.needs d && is_done answer) token
 
--- one that is taken back takes it out, also where that fails
+-- a registration that is taken back takes its entry out, even if that fails
 abbrev pub unlisting_of : {D I : Type 0} → RegistrationToken → D → Outcome → HeldStep D I
 unlisting_of token d answer = Unlisted token
 
@@ -200,8 +200,8 @@ ByOne {D} {I} {P} O R entry d answer e v u =
 abbrev pub CannotInsert : {D : Type 0} → List (Slot D) → (needed : Bool) → Error → Type 0
 CannotInsert slots needed error = CannotClaim slots error ⊎ ((needed ≡ true) × (error ≡ OutOfMemory))
 
--- a source is registered in the first vacant slot, which is claimed for it; where its registration is refused, the slot
--- is vacant again under its new version, and the poller is as that registration left it: calloop's register_dispatcher
+-- a source is registered in the first vacant slot, which is claimed for it; if its registration fails, the slot is vacant again
+-- under its new version, and the poller is as that registration left it: calloop's register_dispatcher
 abbrev pub InsertedBy : {D I P X : Type 0} → Meaning D P (Lent X (Asks D I)) → D
     → Result RegistrationToken (InsertError D) → View D I P → List (Change D I P) → Type 0
 InsertedBy {D} {I} {P} M d (Ok token) v cs =
@@ -215,8 +215,8 @@ InsertedBy {D} {I} {P} M d (Err refused) v cs =
     × M.does d v.poll (Registered (factory_of (next_registration v.slots)) (Err refused.error) f) steps refused.inserted
     × (cs ≡ Claim d ∷ Polls steps ∷ Put (first_vacant v.slots) Vacant ∷ []))
 
--- what is asked of the source in a slot: it goes out of the slot, and comes back as that left it, also after a refusal;
--- R relates the source, its answer, its steps, and what it is then, and `entry` is what becomes of its entry
+-- a call of the source in a slot: it goes out of the slot, and comes back as the call left it, even after a failure; R relates
+-- the source, its answer, its steps, and the source after, and `entry` is what becomes of its entry
 abbrev pub AskedIn : {D I P : Type 0} → (D → Outcome → List (PollStep P) → D → Type 0)
     → (entry : D → Outcome → HeldStep D I) → RegistrationToken → Content D → Outcome → List (Change D I P) → Type 0
 AskedIn R entry token Vacant answer cs = (answer ≡ Err InvalidToken) × (cs ≡ [])
@@ -246,8 +246,8 @@ DisabledBy M token answer v cs =
     AskedIn (λ d a steps e. M.does d v.poll (Unregistered a) steps e) (unlisting_of token) token
     (only (is_callers M) (content_at v.slots token)) answer cs
 
--- it leaves its slot vacant, is unregistered, of which a failure is a warning where there is memory for one, and is
--- handed back; calloop's remove hands nothing back
+-- the source leaves its slot vacant, is unregistered, of which a failure is a warning if there is memory for one, and is handed
+-- back; calloop's remove hands nothing back
 abbrev pub RemovedIn : {D I P X : Type 0} → Meaning D P (Lent X (Asks D I)) → RegistrationToken → Content D → Option D
     → View D I P → List (Change D I P) → Type 0
 RemovedIn M token Vacant answer v cs = (answer ≡ None) × (cs ≡ [])
@@ -261,8 +261,8 @@ abbrev pub RemovedBy : {D I P X : Type 0} → Meaning D P (Lent X (Asks D I)) �
     → List (Change D I P) → Type 0
 RemovedBy M token answer v cs = RemovedIn M token (only (is_callers M) (content_at v.slots token)) answer v cs
 
--- another source takes the place of the one that a token names, which is answered: so does who changes it where it
--- stands, as in calloop by as_source_mut. Where the token names none, the other one is handed back.
+-- another source takes the place of the one that a token names, which is answered: the same if it is changed in its slot, as in
+-- calloop by as_source_mut. If the token names none, the other one is handed back.
 abbrev pub ExchangedIn : {D I P : Type 0} → RegistrationToken → D → Content D → Result D D → List (Change D I P)
     → Type 0
 ExchangedIn token new Vacant answer cs = (answer ≡ Err new) × (cs ≡ [])
@@ -280,9 +280,9 @@ IdleInsertedBy idle (Ok made) v cs =
     (v.held.asks.next < 2 ^ 64 - 1) × (made.ticket.number ≡ v.held.asks.next) × (cs ≡ Holds (IdleNew idle) ∷ [])
 IdleInsertedBy idle (Err refused) v cs = (refused.inserted ≡ idle) × CannotAsk v.held.asks refused.error × (cs ≡ [])
 
--- what the loop takes up of an adapter in a slot: its interest is registered anew, of which a refusal is kept by the adapter
--- itself, or it was dropped, and leaves its slot; what is marked and isn't an adapter is left alone. In calloop a poll
--- calls LoopInner's reregister
+-- what the loop takes up of an adapter in a slot: its interest is registered anew, and on failure the adapter itself keeps the
+-- error; or its `Async` was dropped, and it leaves its slot; a marked entry that isn't an adapter is left alone. In calloop a
+-- poll calls LoopInner's reregister
 abbrev pub TakesUp : {D I P X : Type 0} → Meaning D P (Lent X (Asks D I)) → RegistrationToken → PollView P → D → Outcome
     → List (PollStep P) → D → Type 0
 TakesUp M token v d answer steps e =
@@ -299,8 +299,8 @@ SettledIn {D} {I} {P} M token (Source d) v cs =
     AskedIn (TakesUp M token v.poll) (as_listed token) token (Source d) (Ok tt) cs
     ⊎ ((answer : Option D) × RemovedIn M token (Source d) answer v cs)
 
--- an adapter is given back: its registration is taken back, and it leaves its slot; where that is refused, it stays as
--- that left it; calloop's kill drops such a refusal, and the adapter leaves
+-- an adapter is given back: its registration is taken back, and it leaves its slot; if that fails, it stays as that left it;
+-- calloop's kill ignores such an error, and the adapter leaves
 abbrev pub LeftIn : {D I P X : Type 0} → Meaning D P (Lent X (Asks D I)) → RegistrationToken → Content D → View D I P
     → List (Change D I P) → Type 0
 LeftIn M token Vacant v cs = ⊥
@@ -321,11 +321,11 @@ pub data Doing (D X : Type 0) : Type 0 where
   Beginning : (timeout : Option ℕ) (x : X) → Doing D X
   -- these adapters were marked, and are still to be settled
   Settling : (timeout : Option ℕ) (later : List RegistrationToken) (x : X) → Doing D X
-  -- these are still to be told of the wait
+  -- these sources are still to be told of the wait
   Sleeping : (timeout : Option ℕ) (later : List RegistrationToken) (x : X) → Doing D X
   Waiting : (timeout : Option ℕ) (x : X) → Doing D X
   Gathering : (now : ℕ) (given : List (ℕ × Readiness)) (x : X) → Doing D X
-  -- these are still to be told what was gathered, which stands in the batch from there on
+  -- these sources are still to be told what was gathered, which is in the batch from this position on
   Noticing : (from : ℕ) (later : List RegistrationToken) (x : X) → Doing D X
   Cutting : (x : X) → Doing D X
   -- a source had its turn; what was asked for is carried out, and then its post action
@@ -351,7 +351,7 @@ abbrev pub appends : {D I P : Type 0} → List (Readiness × Token) → List (Ch
 appends [] = []
 appends (e ∷ es) = Appended (own_event e) ∷ appends es
 
--- before it: the events for which it asks join the batch in their order; its error ends the dispatch, and then none of them does
+-- before a wait: the events for which a source asks join the batch in order; its error ends the dispatch, and then none does
 abbrev pub SleptAs : {D I P X : Type 0} → (timeout : Option ℕ) → (later : List RegistrationToken)
     → List (Readiness × Token) → Outcome → X → List (Change D I P) → Doing D X → Type 0
 SleptAs timeout later given (Ok u) x cs b = (cs ≡ appends given) × (b ≡ Sleeping timeout later x)
@@ -366,7 +366,7 @@ SleptBy {D} {I} {P} {X} M timeout token later (Source d) v x cs b =
     × M.does d v.poll (Slept given answer) [] e
     × SleptAs timeout later given answer x joined b × (cs ≡ told_in token e ++ joined)
 
--- after it: it is told of the events of its registration that were gathered
+-- after a wait: a source is told of the events of its registration that were gathered
 abbrev pub NoticedBy : {D I P X : Type 0} → Meaning D P (Lent X (Asks D I)) → (from : ℕ) → RegistrationToken
     → List RegistrationToken → Content D → View D I P → X → List (Change D I P) → Doing D X → Type 0
 NoticedBy M from token later Vacant v x cs b = (cs ≡ []) × (b ≡ Noticing from later x)
@@ -375,7 +375,7 @@ NoticedBy {D} M from token later (Source d) v x cs b =
     (e : D) × M.does d v.poll (Noticed (events_of token (drop from v.poll.batch))) [] e × (cs ≡ told_in token e)
     × (b ≡ Noticing from later x)
 
--- what being told of it leads to: the next one is told, or an error ends the dispatch
+-- the outcome of telling one source: the next one is told, or an error ends the dispatch
 abbrev pub after_telling : {D X : Type 0} → Option ℕ → List RegistrationToken → Outcome → X → Doing D X
 after_telling timeout later (Ok u) x = Sleeping timeout later x
 after_telling timeout later (Err e) x = Leaving (Err e) x
@@ -384,8 +384,8 @@ abbrev pub after_all_told : {D X : Type 0} → Option ℕ → Outcome → X → 
 after_all_told timeout (Ok u) x = Waiting timeout x
 after_all_told timeout (Err e) x = Leaving (Err e) x
 
--- the event that was cut goes to the source that its token names, which has its own turn, or to none: the loop of
--- calloop's dispatch_events
+-- the event that was cut goes to the source that its token names, which has its own turn, or to none: the loop of calloop's
+-- dispatch_events
 abbrev pub CutTo : {D I P X : Type 0} → Meaning D P (Lent X (Asks D I)) → Pending → Content D → View D I P → X
     → List (Change D I P) → Doing D X → Type 0
 CutTo M e Vacant v x cs b = (cs ≡ Cut None ∷ Ended ∷ []) × (b ≡ Cutting x)
@@ -405,7 +405,7 @@ abbrev pub CutFrom : {D I P X : Type 0} → Meaning D P (Lent X (Asks D I)) → 
 CutFrom M [] v x cs b = (cs ≡ []) × (b ≡ Idling x)
 CutFrom M (e ∷ es) v x cs b = CutTo M e (content_at v.slots (registration_of e.token)) v x cs b
 
--- its slot is emptied, where it is still in its turn
+-- its slot is emptied, if it is still in its turn
 abbrev pub vacate : {D I P : Type 0} → RegistrationToken → Content D → List (Change D I P)
 vacate token InTurn = Put token.slot Vacant ∷ []
 vacate token Vacant = []
@@ -413,7 +413,7 @@ vacate token (Source d) = []
 
 -- What callbacks ask for.
 
--- what came of it
+-- the answer to a request
 abbrev pub inserted_answer : {D : Type 0} → Result RegistrationToken (InsertError D) → Answer D
 inserted_answer (Ok token) = InsertedAnswer token
 inserted_answer (Err refused) = NotInserted refused
@@ -422,14 +422,14 @@ abbrev pub done_answer : {D : Type 0} → Outcome → Answer D
 done_answer (Ok u) = Done
 done_answer (Err e) = Refused e
 
--- what is asked of the source in its turn is `own`; of another, or of none, it is what the handle's call does
+-- a request about the source in its turn does `own`; about another, or none, it does what the handle's call does
 abbrev pub OwnOr : {D : Type 0} → Content D → (own other : Type 0) → Type 0
 OwnOr InTurn own other = own
 OwnOr Vacant own other = other
 OwnOr (Source d) own other = other
 
--- what a request does, and what came of it: a source in its turn can't be registered; that it is registered anew, or
--- that its registration is taken back, waits for the end of its turn; so in calloop, whose enable panics there
+-- what a request does, and its answer: a source in its turn can't be registered; registering it anew, or taking its registration
+-- back, waits for the end of its turn; so in calloop, whose enable panics there
 abbrev pub ServedAs : {D I P X : Type 0} → Meaning D P (Lent X (Asks D I)) → Request D I → Outcome → View D I P
     → List (Change D I P) → Type 0
 ServedAs M (AskEnable token) answer v cs =
@@ -457,7 +457,7 @@ Served {D} {I} {P} M request v cs =
     (answer : Outcome) × (ds : List (Change D I P)) × ServedAs M request answer v ds
     × (cs ≡ ds ++ Holds (Told (done_answer answer)) ∷ [])
 
--- the first request that was written is carried out; where there is none, the loop goes on
+-- the first request that was written is carried out; if there is none, the loop goes on
 abbrev pub ServedFrom : {D I P X : Type 0} → Meaning D P (Lent X (Asks D I)) → List (Asked D I)
     → (on next b : Doing D X) → View D I P → List (Change D I P) → Type 0
 ServedFrom M [] on next b v cs = (cs ≡ []) × (b ≡ next)
@@ -472,7 +472,7 @@ action_of (Ok DisableIt) pending = Ok DisableIt
 action_of (Ok Remove) pending = Ok Remove
 action_of (Err e) pending = Err e
 
--- the post action of a turn is taken; after an error there is none. calloop takes it likewise.
+-- the post action of a turn is taken; after an error there is none. calloop takes it the same way.
 abbrev pub ActedBy : {D I P X : Type 0} → Meaning D P (Lent X (Asks D I)) → RegistrationToken → D
     → Result PostAction Error → View D I P → List (Change D I P) → D → Result (Unit {0}) Error → Type 0
 ActedBy M token d (Ok Continue) v cs e told = (cs ≡ Holds (Pend Continue) ∷ []) × (e ≡ d) × (told ≡ Ok tt)
@@ -486,13 +486,13 @@ ActedBy M token d (Ok Remove) v cs e told =
     (cs ≡ Holds (Pend Continue) ∷ vacate token (content_at v.slots token)) × (e ≡ d) × (told ≡ Ok tt)
 ActedBy M token d (Err error) v cs e told = (cs ≡ Holds (Pend Continue) ∷ []) × (e ≡ d) × (told ≡ Err error)
 
--- an error leaves the rest of the batch for the next dispatch, where calloop drops it
+-- an error leaves the rest of the batch for the next dispatch; calloop drops it
 abbrev pub after_turn : {D X : Type 0} → Result (Unit {0}) Error → X → Doing D X
 after_turn (Ok u) x = Cutting x
 after_turn (Err e) x = Leaving (Err e) x
 
--- the source goes back to its slot, where that is still in its turn; else it is unregistered last, and a failure of
--- that is a warning, where there is memory for one. One that asked for its own removal is handed back.
+-- the source goes back to its slot, if that is still in its turn; else it is unregistered last, and a failure of that is a
+-- warning, if there is memory for one. A source that asked for its own removal is handed back.
 abbrev pub ReturnedTo : {D I P X : Type 0} → Meaning D P (Lent X (Asks D I)) → RegistrationToken → D → Content D
     → View D I P → List (Change D I P) → Type 0
 ReturnedTo M token d InTurn v cs = cs ≡ Put token.slot (Source d) ∷ []
@@ -566,8 +566,8 @@ Once O R v [] = ⊥
 Once O R v (cs ∷ []) = R v cs × AllFit O v cs
 Once O R v (cs ∷ ds ∷ css) = ⊥
 
--- where the batch finds no memory, nothing is changed; else a dispatch begins with its room and goes on until it leaves
--- (in calloop dispatch_events, then dispatch_idles)
+-- if there is no memory for the batch, nothing is changed; else a dispatch begins with its room and goes on until it ends (in
+-- calloop dispatch_events, then dispatch_idles)
 abbrev pub DispatchedBy : {D I P X : Type 0} → Meaning D P (Lent X (Asks D I)) → Runs D I X → Outside P → Option ℕ → X
     → Result (Unit {0}) Error → X → View D I P → List (List (Change D I P)) → Type 0
 DispatchedBy M runs O timeout x answer x' v css =
@@ -594,7 +594,7 @@ Case M runs O LookForStop (Stopped found) v css = css ≡ (Holds (StopNoted (Loo
 Case M runs O (NewPoller p) (OldPoller q) v css = (q ≡ v.poll.poller) × (css ≡ (Polling p ∷ []) ∷ [])
 Case M runs O call answer v css = ⊥
 
--- a list of cases, each beginning where the one before ended; the changes of each are told
+-- a list of cases, each beginning in the state that the one before left; the changes of each are told
 abbrev pub Run : {D I P X : Type 0} → Meaning D P (Lent X (Asks D I)) → Runs D I X → Outside P → List (LoopCall D P X I)
     → List (LoopAnswer D P X I) → List (List (List (Change D I P))) → World D I P → World D I P → Type 0
 Run M runs O [] [] [] w w' = w' ≡ w
@@ -619,23 +619,23 @@ abbrev pub Goes : {D I P X : Type 0} → Meaning D P (Lent X (Asks D I)) → Run
     → View D I P → View D I P → Type 0
 Goes M runs O a b old new = Did (λ v css. Steps M runs O v a css b) old new
 
--- what handing out the first event leads to: another one, or the end where there was none, or an error
+-- the outcome of handing out the first event: another one, or the end if there was none, or an error
 abbrev pub after_hand_out : {D X : Type 0} → Result Bool Error → X → Doing D X
 after_hand_out (Ok true) x = Cutting x
 after_hand_out (Ok false) x = Idling x
 after_hand_out (Err e) x = Leaving (Err e) x
 
--- what handing out all of them leads to
+-- the outcome of handing out all of them
 abbrev pub after_batch : {D X : Type 0} → Outcome → X → Doing D X
 after_batch (Ok u) x = Idling x
 after_batch (Err e) x = Leaving (Err e) x
 
--- what running the first idle leads to: another one, or the end where there was none
+-- the outcome of running the first idle: another one, or the end if there was none
 abbrev pub after_idle : {D X : Type 0} → Bool → X → Doing D X
 after_idle true x = RunningIdles x
 after_idle false x = Leaving (Ok tt) x
 
--- the answer of an insertion of a source, where it is held with its callback
+-- the answer of an insertion of a source, if it is held with its callback
 abbrev pub held_answer : {D S F : Type 0} → (Dispatcher S F → D) → F → Result RegistrationToken (InsertError S)
     → Result RegistrationToken (InsertError D)
 held_answer held f (Ok token) = Ok token

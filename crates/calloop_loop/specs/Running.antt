@@ -1,5 +1,5 @@
--- A loop that runs until it is stopped: calloop's run. What a look for a stop finds no contract says, for a signal may
--- come from anywhere; as in calloop, one that came before the run is forgotten.
+-- A loop that runs until it is stopped: calloop's run. No contract says what a look for a stop finds, for a signal may come from
+-- anywhere; as in calloop, an earlier stop is forgotten.
 use Rattle.std.specs.Prelude.{◌≡◌, List, [], ◌∷◌, true, false, Option, Result, Ok, Err}
 use Rattle.std.specs.declared.time.Duration.{Duration}
 use Rattle.calloop_slots.specs.declared.error.Error.{Error}
@@ -18,9 +18,9 @@ use Rattle.calloop_loop.specs.Rules.{RunLeads}
 abbrev pub RoundCall : (F X : Type 0) → Type 1
 RoundCall F X = F → X → Unit {0} → F → X → Type 0
 
--- The rounds of a run, of this function and these data. Each begins with a look for a stop, which ends the run where it
--- finds one. Else it is a dispatch, and then a call of the function with what the dispatch left of the data; the first
--- error of a dispatch ends the run without a call, and is its answer.
+-- The rounds of a run, of this function and these data. Each begins with a look for a stop, which ends the run if it finds one.
+-- Else it is a dispatch, and then a call of the function with what the dispatch left of the data; the first error of a dispatch
+-- ends the run without a call, and is its answer.
 abbrev pub Rounds : {D I P X F : Type 0} → RoundCall F X → Option Duration → F → X → List (LoopCall D P X I)
     → List (LoopAnswer D P X I) → Result (Unit {0}) Error → (left : X) → Type 0
 Rounds called timeout f x (LookForStop ∷ []) (Stopped true ∷ []) answer y = (answer ≡ Ok tt) × (y ≡ x)
@@ -31,7 +31,7 @@ Rounds called timeout f x (LookForStop ∷ call ∷ calls) (Stopped false ∷ Di
     (call ≡ Dispatch timeout x) × (calls ≡ []) × (answers ≡ []) × (answer ≡ Err e) × (y ≡ left)
 Rounds called timeout f x calls answers answer y = ⊥
 
--- what a run of a loop may do, from what is seen of it and of the data before to both after
+-- what a run of a loop may do, from what is seen of the loop and of the data before to both after
 abbrev pub RunsTo : {D I P X F : Type 0} → Meaning D P (Lent X (Asks D I)) → Runs D I X → Outside P → RoundCall F X
     → Option Duration → F → X → View D I P → Result (Unit {0}) Error → (left : X) → View D I P → Type 0
 RunsTo {D} {I} {P} {X} M runs O called timeout f x v answer y t =

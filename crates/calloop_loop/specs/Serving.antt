@@ -1,4 +1,4 @@
--- What is carried out of what callbacks asked for, as contracts of the loop's own functions speak of it.
+-- How the requests of callbacks are carried out, as contracts of the loop's own functions speak of it.
 use Rattle.std.specs.Prelude.{◌≡◌, List, [], ◌∷◌, Bool, true, false}
 use Rattle.calloop_sources.specs.sources.Deeds.{Lent}
 use Rattle.calloop_sources.specs.sources.Meanings.{Meaning}
@@ -16,13 +16,13 @@ abbrev pub Serves : {D I P X : Type 0} → Meaning D P (Lent X (Asks D I)) → O
 Serves {D} {I} {P} M O request v u =
     (cs : List (Change D I P)) × Served M request v cs × AllFit O v cs × (u ≡ all_viewed v cs)
 
--- one, before its answer
+-- one request, before its answer
 abbrev pub ServesAs : {D I P X : Type 0} → Meaning D P (Lent X (Asks D I)) → Outside P → Request D I → Outcome
     → View D I P → View D I P → Type 0
 ServesAs {D} {I} {P} M O request answer v u =
     (cs : List (Change D I P)) × ServedAs M request answer v cs × AllFit O v cs × (u ≡ all_viewed v cs)
 
--- the first one that was written, where there is one
+-- the first request that was written, if there is one
 abbrev pub ServesFirst : {D I P X : Type 0} → Meaning D P (Lent X (Asks D I)) → Outside P → List (Asked D I)
     → (any : Bool) → View D I P → View D I P → Type 0
 ServesFirst M O [] any v u = (any ≡ false) × (u ≡ v)
@@ -34,7 +34,7 @@ FirstServed M [] v cs = ⊥
 FirstServed {D} {I} {P} M (a ∷ as') v cs =
     (ds : List (Change D I P)) × Served M a.request (after_change v (Holds Begun)) ds × (cs ≡ Holds Begun ∷ ds)
 
--- one after the other, until none is left
+-- one request after the other, until none is left
 abbrev pub AllServed : {D I P X : Type 0} → Meaning D P (Lent X (Asks D I)) → Outside P → View D I P
     → List (List (Change D I P)) → Type 0
 AllServed M O v [] = v.held.asks.written ≡ []

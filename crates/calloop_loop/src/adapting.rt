@@ -16,10 +16,10 @@ use std::os::fd::AsRawFd;
 use std::sync::Wait;
 
 impl<D: EventDispatcher<P, C, R>, P: Poller, C: Clock, R: Wait + Drop> LoopHandle<'_, D, P, C, R> {
-    /// Adapts a socket: its `Async` polls it as a future, and the loop tells that what it finds. The adapter takes a slot, which no call of a
-    /// handle names; no poller is called until a poll waits.
+    /// Adapts a socket: its `Async` polls it as a future, and the loop tells the `Async` what it finds. The adapter takes a slot,
+    /// which no call of a handle names; no poller is called until a poll waits.
     ///
-    /// The refusals are those of an insertion. Each hands the socket back, and leaves the loop as it does.
+    /// Fails as an insertion does, which leaves the loop the same way, and hands the socket back.
     pub fn adapt_io<F, N>(
         &mut self,
         rt: &R,
@@ -52,9 +52,10 @@ impl<D: EventDispatcher<P, C, R>, P: Poller, C: Clock, R: Wait + Drop> LoopHandl
 
     /// Takes an adapter out of this loop, and its socket out of the poller, and hands the socket back.
     ///
-    /// A fault of the poller is `IoError`, and the adapter stays as it was. One of another loop, or of none, is refused with `InvalidToken`.
-    /// One whose socket was taken out by `get_mut` is refused with `IoError` of kind `NotFound`, and stays, where the poller knew that
-    /// socket; else with `InvalidToken`, and it has left. Each hands the `Async` back.
+    /// An error of the poller is `IoError`, and the adapter stays as it was. An adapter of another loop, or of none, is
+    /// `InvalidToken`. If the socket was taken out by `get_mut`, it fails with `IoError` of kind `NotFound`, and the adapter
+    /// stays, if the poller knew that socket; else with `InvalidToken`, and the adapter has left. Each failure hands the `Async`
+    /// back.
     pub fn into_inner<F: AsRawFd + Drop>(
         &mut self,
         io: Async<F, R>,
@@ -91,10 +92,11 @@ impl<D: EventDispatcher<P, C, R>, P: Poller, C: Clock, R: Wait + Drop> LoopHandl
 }
 
 impl<D, I> Requests<D, I> {
-    /// Asks for a socket to be adapted. Its `Async` is there at once, as calloop's is; what it waits for is registered when its adapter is in
-    /// the loop. The answer is `Inserted`, or `NotInserted`: then the socket stays with the `Async`, whose `get_mut` has it.
+    /// Asks for a socket to be adapted. Its `Async` is there at once, as calloop's is; what it waits for is registered when its
+    /// adapter is in the loop. The answer is `Inserted`, or `NotInserted`: then the socket stays with the `Async`, and `get_mut`
+    /// reaches it.
     ///
-    /// A refusal of this call hands the socket back, and nothing is asked for.
+    /// If this call fails, it hands the socket back, and nothing is asked for.
     pub fn adapt<F: AsRawFd + Drop, R: Wait + Clone + Drop, N>(
         &mut self,
         rt: &R,

@@ -1,5 +1,5 @@
-//! What callbacks ask of the loop, and what came of it. A callback of calloop holds a handle of its loop instead, whose calls act
-//! at once, but for those on its own source.
+//! What callbacks ask of the loop, and the answers. A callback of calloop holds a handle of its loop instead, whose calls act at
+//! once, except those on its own source.
 ghost use Rattle.std.specs.Prelude.{◌≡◌, true, ◌⊎◌, ◌+◌, ◌-◌, ◌^◌, ◌<◌, ◌≤◌, ◌++◌, [], None, Some, filter, IfOk, IfErr, IfSome, IfNone, OnOk, vec_len, vec_capacity};
 ghost use Rattle.std.specs.VecDeque.{deque_len, deque_capacity};
 ghost use Rattle.calloop_slots.specs.declared.error.Error.TheVariants.{OutOfMemory, TooManyTickets};
@@ -15,7 +15,7 @@ use std::collections::VecDeque;
 use std::marker::Model;
 use std::mem;
 
-/// What names a request, and its answer.
+/// The name of a request and of its answer.
 #[derive(Clone, Copy, Debug, PartialEq, Eq)]
 pub struct Ticket {
     number: u64,
@@ -29,14 +29,14 @@ impl Ticket {
     }
 }
 
-/// What a loop was asked to do once, when nothing else is left to do. To drop this cancels nothing.
+/// The handle of something that a loop was asked to do once, when nothing else is left to do. Dropping it cancels nothing.
 #[derive(Debug, Drop)]
 pub struct Idle {
     ticket: Ticket,
 }
 
 impl Idle {
-    /// The ticket of its request.
+    /// The ticket of the idle's request.
     pub fn ticket(&self) -> Ticket
         ensures { result ≡ self.now.ticket }
     {
@@ -44,18 +44,18 @@ impl Idle {
     }
 }
 
-/// What came of a request.
+/// The answer to a request.
 #[derive(Drop)]
 pub enum Answer<D> {
-    /// It was carried out.
+    /// The request was carried out.
     Done,
     /// The source was registered under this token.
     Inserted(RegistrationToken),
-    /// It was not, and is handed back.
+    /// The source was not registered, and is handed back.
     NotInserted(InsertError<D>),
-    /// The source that left the loop, unregistered, with its callback. None where the token named none.
+    /// The source that left the loop, unregistered, with its callback. `None` if the token named none.
     Removed(Option<D>),
-    /// Nothing was done, or a source refused what it was asked for.
+    /// Nothing was done, or a source failed at what it was asked for.
     Refused(Error),
 }
 
@@ -91,11 +91,11 @@ pub(super) struct Idling<I> {
     idle: I,
 }
 
-/// What the callbacks of a loop over `D` ask for, and the answers that were not handed out. What is asked for in a turn is
-/// carried out in order when the turn ends. `I` is what the loop can be asked to do once.
+/// What the callbacks of a loop over `D` ask for, and the answers that were not handed out. The requests of a turn are carried
+/// out in order when the turn ends. `I` is the type of what the loop can be asked to do once.
 ///
-/// Each call takes the room for its answer first, so that nothing fails for lack of memory later. It is refused with
-/// `OutOfMemory` where there is none, and with `TooManyTickets` where 2^64 - 1 tickets were given; then nothing is asked for.
+/// Each call takes the room for its answer first, so that nothing fails for lack of memory later. It fails with `OutOfMemory` if
+/// there is none, and with `TooManyTickets` if 2^64 - 1 tickets were given; then nothing is asked for.
 #[derive(Drop)]
 pub struct Requests<D, I = ()> {
     written: VecDeque<Asked<D, I>>,
@@ -109,7 +109,7 @@ pub struct Requests<D, I = ()> {
     // The next ticket when idles were last taken up, and when answers were last cleared.
     taken_up_at: u64,
     cleared_at: u64,
-    // The source in whose turn this is lent.
+    // The source in whose turn the requests are lent.
     turn: Option<RegistrationToken>,
 }
 
@@ -151,8 +151,8 @@ impl<D, I> Asking for Requests<D, I> {
 }
 
 impl<D, I> Requests<D, I> {
-    /// Requests of no loop, with nothing asked for, whose first ticket has this number: to try a callback by itself, or what it does
-    /// when tickets run out. Those of a loop begin at 0.
+    /// Makes requests of no loop, with nothing asked for, whose first ticket has this number: to try a callback by itself, or
+    /// what it does when tickets run out. Those of a loop begin at 0.
     pub fn numbered_from(first: u64, alloc: Global) -> Requests<D, I>
         ensures { result ≡ record no_asks { next = first } }
     {
@@ -170,8 +170,8 @@ impl<D, I> Requests<D, I> {
         }
     }
 
-    /// Asks for a source to be registered in the first vacant slot, with a callback for its events. Its answer is `Inserted` or
-    /// `NotInserted`. A refusal of this call hands the source back, and its callback is dropped.
+    /// Asks for a source to be registered in the first vacant slot, with a callback for its events. The answer is `Inserted` or
+    /// `NotInserted`. If this call fails, it hands the source back, and drops its callback.
     pub fn insert_source<S, F, N>(
         &mut self,
         source: S,
@@ -212,8 +212,8 @@ impl<D, I> Requests<D, I> {
         Ok(Ticket { number })
     }
 
-    /// Asks for a dispatcher to be registered in the first vacant slot: a source with its callback, as the loop holds them. Its
-    /// answer is `Inserted` or `NotInserted`. A refusal of this call hands the dispatcher back.
+    /// Asks for a dispatcher to be registered in the first vacant slot: a source with its callback, as the loop holds them. The
+    /// answer is `Inserted` or `NotInserted`. If this call fails, it hands the dispatcher back.
     pub fn register_dispatcher(
         &mut self,
         dispatcher: D,
@@ -238,9 +238,9 @@ impl<D, I> Requests<D, I> {
         }
     }
 
-    /// Asks for the source that the token names to be registered, as after `disable`. Its answer is `Done`, or `Refused`: with
-    /// `InvalidToken` where the token names no source, with `OwnTurn` where that is the one in its turn, and else with
-    /// what the source answers.
+    /// Asks for the source that the token names to be registered, as after `disable`. The answer is `Done`, or `Refused`: with
+    /// `InvalidToken` if the token names no source, with `OwnTurn` if that source is the one in its turn, and else with the
+    /// source's own error.
     pub fn enable(&mut self, token: &RegistrationToken) -> Result<Ticket>
     where
         D: Drop,
@@ -253,8 +253,8 @@ impl<D, I> Requests<D, I> {
             .map_err(|refused| refused.error)
     }
 
-    /// Asks for the source that the token names to be registered anew. Its answer is as that of `enable`, but that the source in its
-    /// turn is registered anew when its turn ends, where that answers `Continue`.
+    /// Asks for the source that the token names to be registered anew. The answer is as for `enable`, but the source in its turn
+    /// is registered anew when its turn ends, if that answers `Continue`.
     pub fn update(&mut self, token: &RegistrationToken) -> Result<Ticket>
     where
         D: Drop,
@@ -267,7 +267,7 @@ impl<D, I> Requests<D, I> {
             .map_err(|refused| refused.error)
     }
 
-    /// Asks for the registration of the source that the token names to be taken back. Its answer is as that of `update`.
+    /// Asks for the registration of the source that the token names to be taken back. The answer is as for `update`.
     pub fn disable(&mut self, token: &RegistrationToken) -> Result<Ticket>
     where
         D: Drop,
@@ -280,8 +280,8 @@ impl<D, I> Requests<D, I> {
             .map_err(|refused| refused.error)
     }
 
-    /// Asks for the source that the token names to leave the loop. Its answer is `Removed`. The slot of the source in its turn is
-    /// vacant at once; that one is unregistered and answered when its turn is over.
+    /// Asks for the source that the token names to leave the loop. The answer is `Removed`. If that source is in its turn, its
+    /// slot is vacant at once, and it is unregistered and answered when the turn is over.
     pub fn remove(&mut self, token: RegistrationToken) -> Result<Ticket>
     where
         D: Drop,
@@ -294,8 +294,8 @@ impl<D, I> Requests<D, I> {
             .map_err(|refused| refused.error)
     }
 
-    /// Asks for something to be done once, at the end of a dispatch: of this one, or of the next one where this is asked by what runs
-    /// there. Its answer, `Done`, says that it was taken up. A refusal of this call hands it back.
+    /// Asks for something to be done once, at the end of a dispatch: of this one, or of the next one if an idle that runs asks
+    /// for it. The answer, `Done`, says that it was taken up. If this call fails, it hands the idle back.
     pub fn insert_idle(&mut self, idle: I) -> std::result::Result<Idle, InsertError<I>>
     where
         D: Drop,
@@ -317,7 +317,7 @@ impl<D, I> Requests<D, I> {
         }
     }
 
-    /// Asks for an idle not to be run. Its answer is `Done`, also where it has run. A refusal of this call hands it back.
+    /// Asks for an idle not to be run. The answer is `Done`, even if it has run. If this call fails, it hands the idle back.
     pub fn cancel(&mut self, idle: Idle) -> std::result::Result<Ticket, InsertError<Idle>>
     where
         D: Drop,
@@ -337,18 +337,18 @@ impl<D, I> Requests<D, I> {
         }
     }
 
-    /// The token of the source in whose turn this is lent, by which its callback can ask for its own removal, or tell others of it. None
-    /// where an idle is lent it. calloop's callbacks aren't told.
+    /// The token of the source in whose turn the requests are lent, by which its callback can ask for its own removal, or tell
+    /// others of it. `None` if they are lent to an idle. calloop's callbacks aren't told.
     pub fn own_token(&self) -> Option<RegistrationToken>
         ensures { result ≡ self.now.turn }
     {
         self.turn
     }
 
-    /// What came of the request of this ticket, once it was carried out. It is handed out once. It is gone when a dispatch has made its
-    /// room after the idles that were asked for beside it were taken up. If dispatches fail before their idles, it stays until the end of
-    /// the next dispatch that made its room, and longer only while an idle that was asked for after it waits. In calloop a call of the
-    /// handle answers at once.
+    /// Hands out the answer to the request of this ticket once, after it was carried out. The answer is gone when a dispatch has
+    /// made its room after the idles that were asked for beside it were taken up. If dispatches fail before their idles, it stays
+    /// until the end of the next dispatch that made its room, and longer only while an idle that was asked for after it waits. In
+    /// calloop a call of the handle answers at once.
     pub fn answer(&mut self, ticket: Ticket) -> Option<Answer<D>>
         ensures value { result ≡ answer_under ticket.number self.old.answers }
         ensures rest { self.new ≡ ask_after self.old (Take ticket.number) }
@@ -357,7 +357,7 @@ impl<D, I> Requests<D, I> {
         take(&mut self.answers, ticket.number)
     }
 
-    // Writes a request under the next ticket. A refusal hands it back.
+    // Writes a request under the next ticket. On failure it hands the request back.
     fn write(
         &mut self,
         request: Request<D, I>,
@@ -395,7 +395,7 @@ impl<D, I> Requests<D, I> {
 }
 
 impl<D, I> Requests<D, I> {
-    // They are lent in the turn of this source from now on: whose turn it was before.
+    // Lends the requests in the turn of this source from now on. Returns whose turn it was before.
     pub(super) fn enter_turn(&mut self, token: RegistrationToken) -> Option<RegistrationToken>
         ensures older { result ≡ self.old.turn }
         ensures asks { self.new ≡ of_turn token self.old }
@@ -403,21 +403,21 @@ impl<D, I> Requests<D, I> {
         mem::replace(&mut self.turn, Some(token))
     }
 
-    // The turn is over.
+    // Ends the turn.
     pub(super) fn leave_turn(&mut self, older: Option<RegistrationToken>)
         ensures { self.new ≡ record self.old { turn = older } }
     {
         self.turn = older;
     }
 
-    // Whether nothing is asked for.
+    // True if nothing is asked for.
     pub(super) fn has_none(&self) -> bool
         ensures { result ≡ true → self.now.written ≡ [] }
     {
         self.written.is_empty()
     }
 
-    // The first request, which is carried out from now on.
+    // Takes out the first request, which is carried out from now on.
     pub(super) fn begin(&mut self) -> Option<Request<D, I>>
         ensures first { result ≡ request_of self.old.written }
         ensures asks { self.new ≡ after_begin self.old }
@@ -427,7 +427,7 @@ impl<D, I> Requests<D, I> {
         Some(asked.request)
     }
 
-    // The answer of the request that is carried out.
+    // Answers the request that is carried out.
     pub(super) fn put_answer(&mut self, answer: Answer<D>)
     where
         D: Drop,
@@ -439,7 +439,7 @@ impl<D, I> Requests<D, I> {
         }
     }
 
-    // Its answer is owed from now on.
+    // Owes the answer of the request that is carried out.
     pub(super) fn owe(&mut self)
         ensures { self.new ≡ with_answer_owed self.old }
     {
@@ -447,7 +447,7 @@ impl<D, I> Requests<D, I> {
         self.serving = None;
     }
 
-    // Hands back a source that left, where that answer is owed. Else it is dropped.
+    // Hands back a source that left, if that answer is owed. Else drops it.
     pub(super) fn hand_back(&mut self, left: D)
     where
         D: Drop,
@@ -462,8 +462,8 @@ impl<D, I> Requests<D, I> {
         }
     }
 
-    // A dispatch begins. Answers to what was asked for before idles were last taken up are gone: what was asked beside them has run.
-    // So are those to what was asked for before the dispatch before this one, unless an idle that was asked for later waits still.
+    // Begins a dispatch. Drops the answers to what was asked for before idles were last taken up: what was asked beside it has
+    // run. Also drops those to what was asked for before the last dispatch, unless an idle that was asked for later waits still.
     pub(super) fn clear_answers(&mut self)
     where
         D: Drop,
@@ -474,7 +474,7 @@ impl<D, I> Requests<D, I> {
         self.cleared_at = self.next;
     }
 
-    // Puts the idle of the request that is carried out at the end, and answers that.
+    // Puts the idle of the request that is carried out at the end, and answers that request.
     pub(super) fn put_idle(&mut self, idle: I)
     where
         D: Drop,
@@ -491,7 +491,7 @@ impl<D, I> Requests<D, I> {
         }
     }
 
-    // Puts an idle that no callback asked for at the end, under the next ticket. A refusal hands it back.
+    // Puts an idle that no callback asked for at the end, under the next ticket. On failure it hands the idle back.
     pub(super) fn add_idle(&mut self, idle: I) -> std::result::Result<Idle, InsertError<I>>
     where
         I: Drop,
@@ -535,7 +535,7 @@ impl<D, I> Requests<D, I> {
         take_out(&mut self.running, ticket);
     }
 
-    // All idles run from now on, and later ones wait.
+    // Has all idles run from now on; later ones wait.
     pub(super) fn take_up_idles(&mut self)
         ensures { self.new ≡ taken_up self.old }
     {
@@ -543,7 +543,7 @@ impl<D, I> Requests<D, I> {
         self.taken_up_at = self.next;
     }
 
-    // The first of the idles that run.
+    // Takes out the first of the idles that run.
     pub(super) fn next_idle(&mut self) -> Option<I>
         ensures first { result ≡ running_of self.old.running }
         ensures asks { self.new ≡ idle_begun self.old }
@@ -553,7 +553,7 @@ impl<D, I> Requests<D, I> {
     }
 }
 
-// The ticket for one request more, with room for it, for its answer, and for an idle where it is one.
+// The ticket for another request, with room for the request, for its answer, and for an idle if it asks for one.
 fn next_ticket<D, I>(
     next: u64,
     written: &mut VecDeque<Asked<D, I>>,
@@ -595,7 +595,7 @@ fn next_ticket<D, I>(
     Ok(next)
 }
 
-// Moves all to the end of another list, in their order.
+// Moves all idles to the end of another list, in order.
 fn move_all<I>(from: &mut VecDeque<Idling<I>>, to: &mut VecDeque<Idling<I>>)
     requires { deque_len to.old + deque_len from.old ≤ deque_capacity to.old }
     ensures items { (to.new.items ≡ to.old.items ++ from.old.items) × (from.new.items ≡ []) }
@@ -607,7 +607,7 @@ fn move_all<I>(from: &mut VecDeque<Idling<I>>, to: &mut VecDeque<Idling<I>>)
     let _moved = to.append(from);
 }
 
-// Takes out the one of this ticket.
+// Takes out the idle of this ticket.
 fn take_out<I: Drop>(idles: &mut VecDeque<Idling<I>>, ticket: u64)
     ensures items { idles.new.items ≡ filter (is_other_idle ticket) idles.old.items }
     ensures room { (deque_len idles.new ≤ deque_len idles.old)
@@ -626,7 +626,7 @@ fn last_ticket<I>(idles: &VecDeque<Idling<I>>) -> u64
     }
 }
 
-// Drops those under tickets before `taken_up_at`, and of the others those that are neither since `cleared_at` nor before `last`.
+// Drops the answers under tickets before `taken_up_at`, and those under tickets neither since `cleared_at` nor before `last`.
 fn drop_old<D: Drop>(answers: &mut Vec<Answered<D>>, taken_up_at: u64, cleared_at: u64, last: u64)
     ensures items { answers.new.items
         ≡ filter (stays_on taken_up_at cleared_at last) answers.old.items }
@@ -638,7 +638,7 @@ fn drop_old<D: Drop>(answers: &mut Vec<Answered<D>>, taken_up_at: u64, cleared_a
     });
 }
 
-// Where the answer under this ticket stands.
+// The position of the answer under this ticket.
 fn place_of<D>(answers: &[Answered<D>], ticket: u64) -> Option<usize>
     ensures some { IfSome result (λ place. StandsAt ticket place answers.now) }
     ensures none { IfNone result ((answer_under ticket answers.now ≡ None)

@@ -13,7 +13,7 @@ use calloop_slots::error::Result;
 use std::alloc::Global;
 use std::sync::{Arc, Wait};
 
-// Polls a future that was woken, or not polled yet: its output, where it is done.
+// Polls a future that was woken, or not polled yet. Returns its output, if it is done.
 fn poll_if_woken<Fut, R>(
     first: bool,
     future: &mut Fut,
@@ -39,7 +39,7 @@ where
 }
 
 impl<D: EventDispatcher<P, C, R>, P: Poller, C: Clock, R: Wait + Drop> EventLoop<D, P, C, R> {
-    // A waker that ends this loop's wait, and what it marks.
+    // A waker that ends this loop's wait, and the flag that it sets.
     fn new_waker(&self, alloc: Global) -> Result<(Arc<Blocked, Global>, Waker<R>)>
         ensures { IfErr result (λ e. e ≡ OutOfMemory) }
     {
@@ -48,7 +48,7 @@ impl<D: EventDispatcher<P, C, R>, P: Poller, C: Clock, R: Wait + Drop> EventLoop
         Ok((blocked, waker))
     }
 
-    // The rounds from now on.
+    // Runs the rounds from now on.
     fn block_rounds<Q: Wait, Fut: Future<R>, F: FnMut(&mut D::Data)>(
         &mut self,
         rt: &Q,
@@ -81,12 +81,12 @@ impl<D: EventDispatcher<P, C, R>, P: Poller, C: Clock, R: Wait + Drop> EventLoop
         unreachable!()
     }
 
-    /// Dispatches, and calls `callback` after each dispatch, until the future is done or a signal of this loop stops it. The future is polled
-    /// before the first dispatch, and later once for each wake, or for several that came meanwhile; a wake ends the loop's wait. The
-    /// answer is what it gives, or `None` where the loop is stopped. A stop of before is forgotten.
+    /// Dispatches, and calls `callback` after each dispatch, until the future is done or a signal of this loop stops it. The
+    /// future is polled before the first dispatch, and later once for each wake, or once for several wakes that came meanwhile; a
+    /// wake ends the loop's wait. Returns the future's output, or `None` if the loop is stopped. An earlier stop is forgotten.
     ///
-    /// The first error of a dispatch ends it, without a call behind that. Running out of memory at its beginning is `OutOfMemory`, and changes
-    /// nothing.
+    /// The first error of a dispatch ends the run, without another call. Running out of memory at its beginning is `OutOfMemory`,
+    /// and changes nothing.
     pub fn block_on<Q: Wait, Fut: Future<R>, F: FnMut(&mut D::Data)>(
         &mut self,
         rt: &Q,

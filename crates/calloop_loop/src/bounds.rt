@@ -4,8 +4,8 @@ use calloop_poll::sys::Poller;
 use calloop_sources::sources::{Callback, Dispatch, EventSource, Hold, Keep};
 use std::sync::Wait;
 
-/// A loop's choice of sources that has a place `N` for this source with this callback, so that `insert_source` takes them: `Hold`, with
-/// what this loop lends and what it can be asked for.
+/// A loop's choice of sources that has a place `N` for this source with this callback, so that `insert_source` takes them:
+/// `Hold`, with what this loop lends and what it can be asked for.
 pub trait LoopHold<S, F, P: Poller, C, R: Wait + Drop, N>: EventDispatcher<P, C, R>
     + Hold<
         S,
@@ -51,7 +51,7 @@ where
     >,
 {}
 
-/// A loop's choice of sources that has a place `N` for what has no callback of its own, as an `Adapter` or a `TimeoutTimer`.
+/// A loop's choice of sources with a place `N` for something without a callback of its own, as an `Adapter` or a `TimeoutTimer`.
 pub trait LoopKeep<T, P: Poller, C, R: Wait + Drop, N>: EventDispatcher<P, C, R>
     + Keep<
         T,

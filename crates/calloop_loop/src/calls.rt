@@ -62,7 +62,7 @@ impl<D: EventDispatcher<P, C, R>, P: Poller, C: Clock, R: Wait + Drop> EventLoop
         }
     }
 
-    // Puts another source in the place of the one that the token names. Where it names none, the other one is handed back.
+    // Puts another source in the place of the one that the token names. If it names none, the other one is handed back.
     fn exchange(&mut self, token: RegistrationToken, dispatcher: D) -> Result<D, D>
         ensures { Did (Case D.means D.Idle.runs P.outside (Exchange token dispatcher)
             (Exchanged result)) (view_of self.old) (view_of self.new) }
@@ -76,8 +76,8 @@ impl<D: EventDispatcher<P, C, R>, P: Poller, C: Clock, R: Wait + Drop> EventLoop
         }
     }
 
-    /// Carries out a list of calls in order. Where there is no memory for the answers, the calls are handed back and
-    /// none is carried out.
+    /// Carries out a list of calls in order. If there is no memory for the answers, the calls are handed back and none is carried
+    /// out.
     pub fn carry_out_all<Q: Wait>(
         &mut self,
         rt: &Q,

@@ -34,7 +34,7 @@ use std::sync::Wait;
 use std::time::Duration;
 
 impl<D: EventDispatcher<P, C, R>, P: Poller, C: Clock, R: Wait + Drop> EventLoop<D, P, C, R> {
-    /// A loop over this poller and this clock, without sources. Running out of memory is `OutOfMemory`.
+    /// Makes a loop over this poller and this clock, without sources. Fails with `OutOfMemory` if memory runs out.
     pub fn try_new(rt: &R, alloc: Global, poller: P, clock: C) -> LoopResult<EventLoop<D, P, C, R>>
     where
         R: Clone,
@@ -65,18 +65,18 @@ impl<D: EventDispatcher<P, C, R>, P: Poller, C: Clock, R: Wait + Drop> EventLoop
         LoopHandle { inner: self }
     }
 
-    /// Waits for events, at most for `timeout`, without one until the first deadline, and for ever where there is none,
-    /// and gives each source its turn.
+    /// Waits for events and gives each source its turn. The wait lasts at most for `timeout`; without a timeout, until the first
+    /// deadline, and for ever if there is none.
     ///
-    /// Running out of memory for the batch changes nothing. A fault of the wait is `IoError`, and leaves posted keys
-    /// posted. The error of a turn ends the dispatch; the rest of the batch comes first in the next one. After its turn a
-    /// source is registered anew, unregistered, or leaves its slot, as it answered; a refusal of the first two is an error
-    /// of the turn. One that left its slot is unregistered last; a failure of that is a warning.
+    /// Running out of memory for the batch changes nothing. An error of the wait is `IoError`, and leaves posted keys posted. The
+    /// error of a turn ends the dispatch; the rest of the batch comes first in the next one. After its turn a source is
+    /// registered anew, unregistered, or leaves its slot, as it answered. If one of the first two fails, that is an error of the
+    /// turn. A source that left its slot is unregistered last; a failure of that is a warning.
     ///
-    /// What callbacks ask for in a turn is carried out in order when it ends, before that. When the batch is empty, the idles that
-    /// stand then run once each, in order, with what each asks for after it; later ones wait for the next dispatch, and after an error
-    /// none runs. Warnings of before are cleared at the beginning, and so are answers to what was asked for before idles were last taken up,
-    /// and those from before the last dispatch for which no later idle waits.
+    /// What callbacks ask for in a turn is carried out in order when it ends, before that. When the batch is empty, the idles
+    /// that wait then run once each, in order, with what each asks for after it; later ones wait for the next dispatch, and after
+    /// an error none runs. Earlier warnings are cleared at the beginning, and so are answers to what was asked for before idles
+    /// were last taken up, and those from before the last dispatch for which no later idle waits.
     #[inline(always)]
     pub fn dispatch<Q: Wait>(
         &mut self,
@@ -97,7 +97,7 @@ impl<D: EventDispatcher<P, C, R>, P: Poller, C: Clock, R: Wait + Drop> EventLoop
         }
     }
 
-    // The dispatch, whose error stands in `failure`. That is `OutOfMemory` before it.
+    // Runs the dispatch; its error is in `failure`, which is `OutOfMemory` before it.
     #[inline(never)]
     fn dispatch_with<Q: Wait>(
         &mut self,
@@ -130,7 +130,7 @@ impl<D: EventDispatcher<P, C, R>, P: Poller, C: Clock, R: Wait + Drop> EventLoop
         Ok(())
     }
 
-    // Gives the first event of the batch to the source that its token names. False where there is no event.
+    // Gives the first event of the batch to the source that its token names. False if there is no event.
     fn hand_out(&mut self, data: &mut D::Data, failure: &mut Error) -> Result<bool, Failed>
         ensures machine { Goes D.means D.Idle.runs P.outside (Cutting «data».old)
             (after_hand_out (with_error result failure.new) «data».new)
@@ -160,7 +160,8 @@ impl<D: EventDispatcher<P, C, R>, P: Poller, C: Clock, R: Wait + Drop> EventLoop
         self.go_on(token, answer, failure)
     }
 
-    // What follows a turn that a source had in its slot. It stays there where nothing was asked for and nothing is to be done with it.
+    // What follows a turn that a source had in its slot. It stays there if nothing was asked for and nothing is to be done with
+    // it.
     fn go_on(
         &mut self,
         token: RegistrationToken,
@@ -185,8 +186,8 @@ impl<D: EventDispatcher<P, C, R>, P: Poller, C: Clock, R: Wait + Drop> EventLoop
         self.take_out_and_end(token, answer, failure)
     }
 
-    // What was asked for is carried out, and the post action is taken, while the source is out of its slot. A function of its own, so
-    // that the turns of sources that stay need no room for one.
+    // Carries out what was asked for, and takes the post action, while the source is out of its slot. Kept out of line, so that
+    // the turns of sources that stay need no room for one.
     #[inline(never)]
     fn take_out_and_end(
         &mut self,
@@ -211,7 +212,7 @@ impl<D: EventDispatcher<P, C, R>, P: Poller, C: Clock, R: Wait + Drop> EventLoop
         self.end_turn(token, source, answer, failure)
     }
 
-    // The turn of a source is over: its post action is taken, and it goes back to its slot, where that is still in its turn.
+    // Ends the turn of a source: takes its post action, and puts it back into its slot, if that is still in its turn.
     fn end_turn(
         &mut self,
         token: RegistrationToken,
@@ -233,8 +234,8 @@ impl<D: EventDispatcher<P, C, R>, P: Poller, C: Clock, R: Wait + Drop> EventLoop
         }
     }
 
-    // Puts a source back into its slot. One whose slot isn't in its turn any more is unregistered and dropped; a failure of
-    // that is a warning. It is handed back where it asked for its own removal.
+    // Puts a source back into its slot. If its slot isn't in its turn any more, the source is unregistered and dropped; a failure
+    // of that is a warning. It is handed back if it asked for its own removal.
     fn give_back(&mut self, token: RegistrationToken, source: D)
         ensures machine { (told : Outcome) (x : D.Data)
             → Goes D.means D.Idle.runs P.outside (Returning token source told x) (after_turn told x)
@@ -260,7 +261,7 @@ impl<D: EventDispatcher<P, C, R>, P: Poller, C: Clock, R: Wait + Drop> EventLoop
         self.requests.hand_back(left);
     }
 
-    // The post action of a turn; after an error there is none. `Remove` empties the source's slot.
+    // Takes the post action of a turn; after an error there is none. `Remove` empties the source's slot.
     fn act(
         &mut self,
         token: RegistrationToken,
@@ -297,7 +298,7 @@ impl<D: EventDispatcher<P, C, R>, P: Poller, C: Clock, R: Wait + Drop> EventLoop
         Ok(())
     }
 
-    // Runs the first of the idles that were taken, and carries out what it asked for. False where there is none.
+    // Runs the first of the idles that were taken, and carries out what it asked for. False if there is none.
     fn run_idle(&mut self, data: &mut D::Data) -> bool
         ensures machine { Goes D.means D.Idle.runs P.outside (RunningIdles «data».old)
             (after_idle result «data».new) (view_of self.old) (view_of self.new) }
@@ -321,7 +322,7 @@ impl<D: EventDispatcher<P, C, R>, P: Poller, C: Clock, R: Wait + Drop> EventLoop
     }
 }
 
-// What is done at the end of a turn: what a source asked for itself counts only beside `Continue`.
+// The action at the end of a turn: what a source asked for itself counts only beside `Continue`.
 fn action_of(answer: Result<PostAction, Failed>, pending: PostAction) -> Result<PostAction, Failed>
     ensures { (failure : Error)
         → with_error result failure ≡ action_of (with_error answer failure) pending }

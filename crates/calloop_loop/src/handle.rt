@@ -29,7 +29,7 @@ use calloop_sources::sources::{Callback, Dispatcher, EventSource, Hold, Role};
 use std::sync::Wait;
 
 impl<D: EventDispatcher<P, C, R>, P: Poller, C: Clock, R: Wait + Drop> EventLoop<D, P, C, R> {
-    // Whether the token names a source of the caller's.
+    // True if the token names a source of the caller's.
     pub(super) fn is_callers(sources: &SourceList<D>, token: RegistrationToken) -> bool
         ensures { result
             ≡ is_some (source_of (only (is_callers D.means) (named_by sources.now token))) }
@@ -40,7 +40,7 @@ impl<D: EventDispatcher<P, C, R>, P: Poller, C: Clock, R: Wait + Drop> EventLoop
         }
     }
 
-    // Takes out the source of the caller's that the token names, and leaves its slot in its turn.
+    // Takes out the caller's source that the token names, and leaves its slot in its turn.
     pub(super) fn take_out(sources: &mut SourceList<D>, token: RegistrationToken) -> Option<D>
         ensures value { result
             ≡ source_of (only (is_callers D.means) (named_by sources.old token)) }
@@ -204,8 +204,8 @@ impl<D: EventDispatcher<P, C, R>, P: Poller, C: Clock, R: Wait + Drop> EventLoop
 impl<D: EventDispatcher<P, C, R>, P: Poller, C: Clock, R: Wait + Drop> LoopHandle<'_, D, P, C, R> {
     /// Registers a source in the first vacant slot, with a callback for its events.
     ///
-    /// A refusal hands the source back: `TooManySources` and running out of memory for a new slot leave everything as it
-    /// was; where the registration is refused, the slot is vacant again, under its new version.
+    /// On failure it hands the source back. With `TooManySources`, or without memory for a new slot, everything is unchanged; if
+    /// the registration fails, the slot is vacant again, under its new version.
     pub fn insert_source<S, F, N>(
         &mut self,
         source: S,
@@ -227,8 +227,8 @@ impl<D: EventDispatcher<P, C, R>, P: Poller, C: Clock, R: Wait + Drop> LoopHandl
         self.inner.insert_source(source, callback)
     }
 
-    /// Registers a dispatcher in the first vacant slot: a source with its callback, as the loop holds them. The refusals are those
-    /// of `insert_source`.
+    /// Registers a dispatcher in the first vacant slot: a source with its callback, as the loop holds them. Fails as
+    /// `insert_source` does.
     pub fn register_dispatcher(
         &mut self,
         dispatcher: D,
@@ -243,7 +243,7 @@ impl<D: EventDispatcher<P, C, R>, P: Poller, C: Clock, R: Wait + Drop> LoopHandl
         self.inner.insert(dispatcher)
     }
 
-    /// The source that the token names, with its callback. Where it names none the answer is `InvalidToken`.
+    /// The source that the token names, with its callback. Fails with `InvalidToken` if it names none.
     pub fn dispatcher(&self, token: &RegistrationToken) -> Result<&D>
         ensures ok { IfOk result
             (λ held. named_by (slots_by self.now) token.now ≡ Source held.now) }
@@ -256,13 +256,12 @@ impl<D: EventDispatcher<P, C, R>, P: Poller, C: Clock, R: Wait + Drop> LoopHandl
         self.inner.sources.get(*token).ok_or(Error::InvalidToken)
     }
 
-    /// The source that the token names, with its callback, to be changed in its slot. Where it names none the answer is
-    /// `InvalidToken`.
+    /// The source that the token names, with its callback, to be changed in its slot. Fails with `InvalidToken` if it names none.
     ///
-    /// The loop learns of a change at the next `update`: a timer that is given another deadline fires at the one it was registered
-    /// with before. Another source can be put in the place of this one. It then stands there with what it holds, and the one
-    /// before isn't unregistered: that no timer fires twice for one arming, and that a source in a slot has keys of this slot alone,
-    /// is promised of loops into which none is put with a counter of a timer, or a key, which the one before didn't have.
+    /// The loop learns of a change at the next `update`: a timer with a new deadline fires at the one that it was registered with
+    /// before. Another source can be put in the place of this one. It then has that place with what it holds, and the one before
+    /// isn't unregistered. Two promises, that no timer fires twice for one arming and that a source in a slot has keys of this
+    /// slot alone, hold only of loops into which none is put with a timer's counter, or a key, which the one before didn't have.
     pub fn dispatcher_mut(&mut self, token: &RegistrationToken) -> Result<&mut D>
         ensures* writes_back { sem 𝓛 (LendsIfOk
             (the_row (record { mir = named 1; lft = [] })
@@ -285,8 +284,8 @@ impl<D: EventDispatcher<P, C, R>, P: Poller, C: Clock, R: Wait + Drop> LoopHandl
 
     /// Registers the source that the token names, with tokens of a new factory, as after `disable`.
     ///
-    /// Where the token names no source the answer is `InvalidToken`, and nothing changes. Else it is the answer of the
-    /// source, which stays in its slot as that left it, also after a refusal.
+    /// Fails with `InvalidToken` if the token names no source, and then nothing changes. Else returns the source's own answer;
+    /// the source stays in its slot as that left it, even after a failure.
     pub fn enable(&mut self, token: &RegistrationToken) -> Result<()>
         ensures same { HasTheSameLoop self.old self.new }
         ensures refuses { NamesNone D.means token.now self.old → result ≡ Err InvalidToken }
@@ -299,8 +298,7 @@ impl<D: EventDispatcher<P, C, R>, P: Poller, C: Clock, R: Wait + Drop> LoopHandl
             .change_registration(RegistrationCall::Enable, *token)
     }
 
-    /// Registers the source that the token names anew, as after a change of what it waits for. The answer is as that of
-    /// `enable`.
+    /// Registers the source that the token names anew, as after a change of what it waits for. The answer is as for `enable`.
     pub fn update(&mut self, token: &RegistrationToken) -> Result<()>
         ensures same { HasTheSameLoop self.old self.new }
         ensures refuses { NamesNone D.means token.now self.old → result ≡ Err InvalidToken }
@@ -313,8 +311,8 @@ impl<D: EventDispatcher<P, C, R>, P: Poller, C: Clock, R: Wait + Drop> LoopHandl
             .change_registration(RegistrationCall::Update, *token)
     }
 
-    /// Takes back the registration of the source that the token names. It stays in its slot, and `enable` registers it
-    /// again. The answer is as that of `enable`.
+    /// Takes back the registration of the source that the token names. The source stays in its slot, and `enable` registers it
+    /// again. The answer is as for `enable`.
     pub fn disable(&mut self, token: &RegistrationToken) -> Result<()>
         ensures same { HasTheSameLoop self.old self.new }
         ensures refuses { NamesNone D.means token.now self.old → result ≡ Err InvalidToken }
@@ -327,10 +325,10 @@ impl<D: EventDispatcher<P, C, R>, P: Poller, C: Clock, R: Wait + Drop> LoopHandl
             .change_registration(RegistrationCall::Disable, *token)
     }
 
-    /// Takes the source that the token names out of the loop, and hands it back unregistered. Its slot is vacant, and the
-    /// token names nothing from then on. A failure of the unregistration is a warning.
+    /// Takes the source that the token names out of the loop, and hands it back unregistered. Its slot is vacant, and the token
+    /// names nothing from then on. A failure of the unregistration is a warning.
     ///
-    /// Where the token names no source the answer is `None`, and nothing changes.
+    /// If the token names no source it returns `None`, and nothing changes.
     pub fn remove(&mut self, token: RegistrationToken) -> Option<D>
         ensures same { HasTheSameLoop self.old self.new }
         ensures none { (result ≡ None) ↔ NamesNone D.means token self.old }
@@ -345,8 +343,8 @@ impl<D: EventDispatcher<P, C, R>, P: Poller, C: Clock, R: Wait + Drop> LoopHandl
         self.inner.remove(token)
     }
 
-    /// Asks for something to be done once, at the end of the next dispatch. A refusal hands it back: `OutOfMemory`, or `TooManyTickets`
-    /// where 2^64 - 1 tickets were given.
+    /// Asks for something to be done once, at the end of the next dispatch. On failure it hands the idle back: with
+    /// `OutOfMemory`, or with `TooManyTickets` if 2^64 - 1 tickets were given.
     pub fn insert_idle(&mut self, idle: D::Idle) -> std::result::Result<Idle, InsertError<D::Idle>>
         ensures same { HasTheSameLoop self.old self.new }
         ensures case { IsCase D.means D.Idle.runs P.outside
@@ -357,7 +355,7 @@ impl<D: EventDispatcher<P, C, R>, P: Poller, C: Clock, R: Wait + Drop> LoopHandl
         self.inner.insert_idle(idle)
     }
 
-    /// Asks for an idle not to be run. One that has run is not undone. calloop has this as `Idle::cancel`.
+    /// Asks for an idle not to be run. An idle that has run is not undone. calloop has this as `Idle::cancel`.
     pub fn cancel(&mut self, idle: Idle)
         ensures same { HasTheSameLoop self.old self.new }
         ensures case { IsCase D.means D.Idle.runs P.outside
@@ -368,7 +366,7 @@ impl<D: EventDispatcher<P, C, R>, P: Poller, C: Clock, R: Wait + Drop> LoopHandl
         self.inner.requests.take_out_idle(idle.ticket().number());
     }
 
-    /// What came of the request of this ticket, if it was carried out. It is handed out once, and `Requests::answer` says how long it stays.
+    /// Hands out the answer to the request of this ticket once, if it was carried out. `Requests::answer` says how long it stays.
     pub fn answer(&mut self, ticket: Ticket) -> Option<Answer<D>>
         ensures same { HasTheSameLoop self.old self.new }
         ensures case { IsCase D.means D.Idle.runs P.outside
@@ -380,15 +378,15 @@ impl<D: EventDispatcher<P, C, R>, P: Poller, C: Clock, R: Wait + Drop> LoopHandl
     }
 
     /// Why sources that left the loop failed to take their registration back, since the last dispatch began: those that were
-    /// removed, and those that left it at the end of their turn. Where there was no memory for one, it is missing.
+    /// removed, and those that left it at the end of their turn. If there was no memory for an error, it is missing.
     pub fn warnings(&self) -> &[Error]
         ensures { result.now ≡ (held_by self.now).held.warnings }
     {
         self.inner.warnings.as_slice()
     }
 
-    /// The poller itself, as to give a scripted one its answers. Pings wake the poller that the loop was made with: another one in
-    /// its place hears of them only at its next wait.
+    /// The poller itself, as to give a scripted one its answers. Pings wake the poller that the loop was made with: another
+    /// poller in its place hears of them only at its next wait.
     pub fn poller_mut(&mut self) -> &mut P
         ensures* writes_back { sem 𝓛 (Lends
             (the_row (record { mir = named 1; lft = [] })

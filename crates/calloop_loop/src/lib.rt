@@ -51,7 +51,7 @@ pub struct EventLoop<D: EventDispatcher<P, C, R>, P: Poller, C: Clock, R: Wait +
     sources: SourceList<D>,
     poll: Poll<P, C, R>,
     lifecycle: Lifecycle,
-    // What is lent to each source that is told of a wait.
+    // The events lent to each source that is told of a wait.
     synthetic: Synthetic,
     // What the source in its turn asked for itself.
     pending: PostAction,
@@ -61,7 +61,7 @@ pub struct EventLoop<D: EventDispatcher<P, C, R>, P: Poller, C: Clock, R: Wait +
     stops: StopNotes,
 }
 
-/// The calls on a loop that act at once. It is lent by the loop.
+/// A handle for the calls on a loop that act at once, lent by the loop.
 #[derive(Drop)]
 pub struct LoopHandle<'l, D: EventDispatcher<P, C, R>, P: Poller, C: Clock, R: Wait + Drop> {
     inner: &'l mut EventLoop<D, P, C, R>,
@@ -87,8 +87,8 @@ pub enum LoopCall<D, P, X, I = ()> {
     Poller(P),
 }
 
-/// What a call answered. A dispatch gives its data back, a change of the poller the one before, and an exchange of a source
-/// the one before, or the other one where the token names none.
+/// The answer of a call. A dispatch gives back its data, a change of the poller the old poller, and an exchange of a source the
+/// replaced one, or the other one if the token names none.
 #[derive(Drop)]
 pub enum LoopAnswer<D, P, X, I = ()> {
     Inserted(std::result::Result<RegistrationToken, InsertError<D>>),
@@ -107,7 +107,7 @@ pub enum LoopAnswer<D, P, X, I = ()> {
     Poller(P),
 }
 
-/// What a loop is over: a choice of sources with their callbacks, and the data that a dispatch lends. `Sources` is one.
+/// The content of a loop: a choice of sources with their callbacks, and the data that a dispatch lends. `Sources` is one.
 pub trait EventDispatcher<P: Poller, C, R: Wait + Drop>: Dispatch<
     P,
     C,
@@ -117,10 +117,10 @@ pub trait EventDispatcher<P: Poller, C, R: Wait + Drop>: Dispatch<
 >
     + Drop
     + Sized {
-    /// What a dispatch lends to each callback.
+    /// The data that a dispatch lends to each callback.
     type Data;
 
-    /// What the loop can be asked to do once.
+    /// The type of what the loop can be asked to do once.
     type Idle: IdleCallback<
         <Self as EventDispatcher<P, C, R>>::Data,
         Requests<Self, <Self as EventDispatcher<P, C, R>>::Idle>,
@@ -128,8 +128,8 @@ pub trait EventDispatcher<P: Poller, C, R: Wait + Drop>: Dispatch<
         + Drop;
 }
 
-/// A choice of sources, each with its callback, for a loop whose dispatches lend an `X`. A loop over pings and timers is one
-/// over `Sources<OneOf<Dispatcher<PingSource<R>, F>, Dispatcher<Timer, G>>, X>`. `I` is what it can be asked to do once.
+/// A choice of sources, each with its callback, for a loop whose dispatches lend an `X`. A loop over pings and timers is one over
+/// `Sources<OneOf<Dispatcher<PingSource<R>, F>, Dispatcher<Timer, G>>, X>`. `I` is the type of what it can be asked to do once.
 #[derive(Drop)]
 pub struct Sources<A, X, I = ()> {
     pub held: A,
@@ -141,7 +141,7 @@ impl<A, X, I> Sources<A, X, I> {
     ghost use Rattle.std.specs.Prelude.{◌≡◌};
     ghost use Rattle.calloop_loop.specs.Choices.{with_data};
 
-    /// One that holds this.
+    /// Makes a choice that holds this.
     pub fn new(held: A) -> Sources<A, X, I>
         ensures { result ≡ with_data held }
     {

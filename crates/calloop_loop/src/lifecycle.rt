@@ -6,7 +6,7 @@ ghost use Rattle.calloop_loop.specs.Rooms.{HasRoom};
 use calloop_slots::token::RegistrationToken;
 use std::alloc::{AllocError, Global};
 
-/// In the order of their entry, each once.
+/// The registrations in the order of their entry, each once.
 #[derive(Drop)]
 pub(super) struct Lifecycle {
     tokens: Vec<RegistrationToken>,
@@ -35,7 +35,7 @@ impl Lifecycle {
         self.tokens[place]
     }
 
-    // Makes room for one more, where it is needed.
+    // Makes room for another registration, if needed.
     pub(super) fn reserve(&mut self, needed: bool) -> Result<(), AllocError>
         ensures room { OnOk result (HasRoom needed self.new) }
         ensures err { OnErr result (needed ≡ true) }
@@ -47,7 +47,7 @@ impl Lifecycle {
         Ok(())
     }
 
-    // Makes room for this registration, where it is needed and doesn't stand there.
+    // Makes room for this registration, if it is needed and isn't listed.
     pub(super) fn reserve_for(
         &mut self,
         needed: bool,
@@ -63,7 +63,7 @@ impl Lifecycle {
         self.reserve(is_new)
     }
 
-    // Enters a registration at the end, where it is needed and doesn't stand there.
+    // Enters a registration at the end, if it is needed and isn't listed.
     pub(super) fn enter(&mut self, needed: bool, token: RegistrationToken)
         requires { HasRoom (needed && not (is_listed token self.old.tokens.items)) self.old }
         ensures { self.new.tokens.items

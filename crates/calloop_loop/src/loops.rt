@@ -16,14 +16,14 @@ use std::net::Net;
 use std::sync::Wait;
 use std::time::Clock as MachineClock;
 
-/// A loop over the poller and the clock of the machine.
+/// A loop over the poller and the clock of the operating system.
 pub type SystemLoop<D, R> = EventLoop<D, MioPoller<SystemClock<R>>, SystemClock<R>, R>;
 
-/// A loop over a scripted poller and its clock, for tests and examples: no time passes but what waits are asked for.
+/// A loop over a scripted poller and its clock, for tests and examples: only the time that waits ask for passes.
 pub type ScriptLoop<D, R> = EventLoop<D, ScriptPoller, ScriptClock, R>;
 
 impl<D: EventDispatcher<P, C, R>, P: Poller, C: Clock, R: Wait + Drop> EventLoop<D, P, C, R> {
-    /// The loop's clock, by which timers are made that count from now.
+    /// The loop's clock, for making timers that count from now.
     pub fn clock(&self) -> &C
         ensures { result.now ≡ clock_of self.now }
     {
@@ -45,10 +45,10 @@ where
     D: EventDispatcher<MioPoller<SystemClock<R>>, SystemClock<R>, R>,
     R: Net + MachineClock + Wait + Clone + Drop,
 {
-    /// A loop over the poller and the clock of the machine, without sources. The clock shows 0 now, and timers that are made with
-    /// `clock` count from there.
+    /// Makes a loop over the poller and the clock of the operating system, without sources. The clock shows 0 now, and timers
+    /// that are made with `clock` count from there.
     ///
-    /// What the machine refuses is `IoError`, and running out of memory is `OutOfMemory`.
+    /// An OS error is `IoError`, and running out of memory is `OutOfMemory`.
     pub fn system(rt: &R, alloc: Global) -> Result<SystemLoop<D, R>>
         ensures new { IfOk result BeginsAnew }
         ensures poller { IfOk result (λ made. IsFaultless (poller_of made)) }
@@ -67,8 +67,8 @@ where
     D: EventDispatcher<ScriptPoller, ScriptClock, R>,
     R: Wait + Clone + Drop,
 {
-    /// A loop over a scripted poller and its clock, without sources. The clock shows 0, and nothing is scripted yet: `poller_mut` of the
-    /// handle lends the poller. Running out of memory is `OutOfMemory`.
+    /// Makes a loop over a scripted poller and its clock, without sources. The clock shows 0, and nothing is scripted yet:
+    /// `poller_mut` of the handle lends the poller. Fails with `OutOfMemory` if memory runs out.
     pub fn with_script(rt: &R, alloc: Global) -> Result<ScriptLoop<D, R>>
         ensures new { IfOk result BeginsAnew }
         ensures poller { IfOk result (λ made. IsUnscripted (poller_of made)) }

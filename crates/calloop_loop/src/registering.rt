@@ -21,7 +21,7 @@ use calloop_slots::steps::Steps;
 use calloop_slots::token::{RegistrationToken, TokenFactory};
 use std::sync::Wait;
 
-// Whether a source is registered for the first time, or anew.
+// Says if a source is registered for the first time, or anew.
 #[derive(Clone, Copy)]
 pub(super) enum Registering {
     First,
@@ -37,7 +37,7 @@ pub(super) enum RegistrationCall {
 }
 
 impl<D: EventDispatcher<P, C, R>, P: Poller, C: Clock, R: Wait + Drop> EventLoop<D, P, C, R> {
-    // Claims a slot, where there is room for the entry that is needed.
+    // Claims a slot, if there is room for the entry that is needed.
     pub(super) fn claim(&mut self, needed: bool) -> Result<RegistrationToken, ClaimRefusal>
         ensures ok { IfOk result (λ token. (token ≡ next_registration self.old.sources)
             × (token.slot < most_slots) × (self.new.sources ≡ after_claim self.old.sources)) }
@@ -54,7 +54,7 @@ impl<D: EventDispatcher<P, C, R>, P: Poller, C: Clock, R: Wait + Drop> EventLoop
         self.sources.vacant_entry(&mut Steps::new())
     }
 
-    // Registers a source under this token, and enters it where it is to be told of waits.
+    // Registers a source under this token, and enters it if it is to be told of waits.
     pub(super) fn register(
         &mut self,
         how: Registering,
@@ -80,7 +80,7 @@ impl<D: EventDispatcher<P, C, R>, P: Poller, C: Clock, R: Wait + Drop> EventLoop
         Ok(())
     }
 
-    // The call of the source itself.
+    // Makes the call of the source itself.
     fn register_source(
         how: Registering,
         source: &mut D,
@@ -98,7 +98,7 @@ impl<D: EventDispatcher<P, C, R>, P: Poller, C: Clock, R: Wait + Drop> EventLoop
         }
     }
 
-    // Takes the registration of a source back, and takes it out, also where that fails.
+    // Takes the registration of a source back, and its entry out, even if that fails.
     pub(super) fn unregister(
         &mut self,
         token: RegistrationToken,

@@ -1,4 +1,4 @@
-//! What callbacks asked for is carried out.
+//! The requests of callbacks are carried out.
 ghost use Rattle.std.specs.Prelude.{◌≡◌, ◌≤◌, length};
 ghost use Rattle.calloop_loop.specs.declared.asks.Request.TheVariants.{Remove};
 ghost use Rattle.calloop_loop.specs.Machine.{view_of};
@@ -16,14 +16,14 @@ use calloop_sources::sources::PostAction;
 use std::sync::Wait;
 
 impl<D: EventDispatcher<P, C, R>, P: Poller, C: Clock, R: Wait + Drop> EventLoop<D, P, C, R> {
-    // All of it, in order.
+    // Carries out all requests, in order.
     pub(super) fn serve_all(&mut self)
         ensures { Did (AllServed D.means P.outside) (view_of self.old) (view_of self.new) }
     {
         'requests: while self.serve_first() {}
     }
 
-    // The first request. False where there is none.
+    // Carries out the first request. False if there is none.
     fn serve_first(&mut self) -> bool
         ensures { ServesFirst D.means P.outside self.old.requests.written result (view_of self.old)
             (view_of self.new) }
@@ -64,7 +64,7 @@ impl<D: EventDispatcher<P, C, R>, P: Poller, C: Clock, R: Wait + Drop> EventLoop
         self.requests.put_answer(done_answer(answer));
     }
 
-    // Asked of the source in its turn, it waits for the end of the turn; enabling it is refused.
+    // Carries out a change of a registration. That of the source in its turn waits for the turn's end; enabling it fails.
     fn carry_out_change(&mut self, call: RegistrationCall, token: RegistrationToken) -> Result<()>
         ensures { ServesAs D.means P.outside (request_for call token) result (view_of self.old)
             (view_of self.new) }
@@ -80,7 +80,7 @@ impl<D: EventDispatcher<P, C, R>, P: Poller, C: Clock, R: Wait + Drop> EventLoop
         Ok(())
     }
 
-    // The source in its turn leaves its slot at once, and is answered when its turn is over.
+    // Carries out a removal. The source in its turn leaves its slot at once, and is answered when its turn is over.
     fn serve_removal(&mut self, token: RegistrationToken)
         ensures { Serves D.means P.outside (Remove token) (view_of self.old) (view_of self.new) }
     {

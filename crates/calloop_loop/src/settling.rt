@@ -1,4 +1,4 @@
-//! What was asked of adapters since the last dispatch is taken up.
+//! The loop takes up what was asked of adapters since the last dispatch.
 ghost use Rattle.std.specs.Prelude.{◌≡◌, ℕ, ◌<◌, ◌≤◌, ◌∷◌, List, slice_get, vec_len, Option, Some, is_some, length, if◌then◌else◌};
 ghost use Rattle.calloop_slots.specs.declared.token.RegistrationToken.{RegistrationToken};
 ghost use Rattle.calloop_slots.specs.declared.list.Content.TheVariants.{InTurn};
@@ -20,7 +20,7 @@ use calloop_slots::token::RegistrationToken;
 use calloop_sources::sources::Role;
 use std::sync::Wait;
 
-// The one at this place.
+// The mark at this position.
 fn marked_at(marked: &[RegistrationToken], place: usize) -> RegistrationToken
     requires { place < length marked.now }
     ensures { slice_get marked.now place ≡ Some result }
@@ -29,7 +29,7 @@ fn marked_at(marked: &[RegistrationToken], place: usize) -> RegistrationToken
 }
 
 impl<D: EventDispatcher<P, C, R>, P: Poller, C: Clock, R: Wait + Drop> EventLoop<D, P, C, R> {
-    // Whether the token names an adapter.
+    // True if the token names an adapter.
     fn is_adapter(sources: &SourceList<D>, token: RegistrationToken) -> bool
         ensures { result
             ≡ is_some (source_of (only (is_adapter D.means) (named_by sources.now token))) }
@@ -53,8 +53,8 @@ impl<D: EventDispatcher<P, C, R>, P: Poller, C: Clock, R: Wait + Drop> EventLoop
         sources.begin_turn(token)
     }
 
-    // Settles what is marked under this token, where it is an adapter. One that was dropped leaves its slot; a failure of its
-    // unregistration is a warning.
+    // Settles what is marked under this token, if it is an adapter. An adapter whose `Async` was dropped leaves its slot; a
+    // failure of its unregistration is a warning.
     fn settle_one(&mut self, token: RegistrationToken)
         ensures machine { (timeout : Option ℕ) (later : List RegistrationToken) (x : D.Data)
             → Goes D.means D.Idle.runs P.outside (Settling timeout (token ∷ later) x)
@@ -79,7 +79,7 @@ impl<D: EventDispatcher<P, C, R>, P: Poller, C: Clock, R: Wait + Drop> EventLoop
         }
     }
 
-    // In the order of the list.
+    // Settles the marked ones in the order of the list.
     fn settle_all(&mut self, marked: &[RegistrationToken])
         ensures machine { (timeout : Option ℕ) (x : D.Data)
             → Goes D.means D.Idle.runs P.outside (Settling timeout marked.now x)
@@ -115,7 +115,7 @@ impl<D: EventDispatcher<P, C, R>, P: Poller, C: Clock, R: Wait + Drop> EventLoop
         self.poll.give_marks_back(marked);
     }
 
-    // Takes back the registration of the adapter that the token names, which leaves its slot. Where that is refused, it stays.
+    // Takes back the registration of the adapter that the token names, which leaves its slot. If that fails, it stays.
     pub(super) fn release(&mut self, token: RegistrationToken) -> Result<()>
         ensures { Did (Case D.means D.Idle.runs P.outside (Release token) (Released result))
             (view_of self.old) (view_of self.new) }

@@ -19,7 +19,7 @@ use std::sync::Wait;
 use std::time::Duration;
 
 impl<D: EventDispatcher<P, C, R>, P: Poller, C: Clock, R: Wait + Drop> EventLoop<D, P, C, R> {
-    /// A signal of this loop, which stops its runs and ends its waits. At 2^63 of them it is `OutOfMemory`.
+    /// Makes a signal of this loop, which stops its runs and ends its waits. Fails with `OutOfMemory` if there are 2^63 of them.
     pub fn get_signal(&self) -> Result<LoopSignal>
         ensures ok { IfOk result (AreOfOneLoop (signal_of self.now)) }
         ensures err { IfErr result (λ e. e ≡ OutOfMemory) }
@@ -29,7 +29,7 @@ impl<D: EventDispatcher<P, C, R>, P: Poller, C: Clock, R: Wait + Drop> EventLoop
 }
 
 impl<D: EventDispatcher<P, C, R>, P: Poller, C: Clock, R: Wait + Drop> EventLoop<D, P, C, R> {
-    // Forgets a stop that came before.
+    // Forgets an earlier stop.
     pub(super) fn forget_stop(&mut self)
         ensures { Did (Case D.means D.Idle.runs P.outside ForgetStop StopForgotten)
             (view_of self.old) (view_of self.new) }
@@ -38,7 +38,7 @@ impl<D: EventDispatcher<P, C, R>, P: Poller, C: Clock, R: Wait + Drop> EventLoop
         self.stops.note(StopNote::Forgot);
     }
 
-    // Whether a signal has stopped the loop since it last forgot a stop.
+    // True if a signal has stopped the loop since it last forgot a stop.
     pub(super) fn is_stopped(&mut self) -> bool
         ensures { Did (Case D.means D.Idle.runs P.outside LookForStop (Stopped result))
             (view_of self.old) (view_of self.new) }
@@ -48,11 +48,11 @@ impl<D: EventDispatcher<P, C, R>, P: Poller, C: Clock, R: Wait + Drop> EventLoop
         stopped
     }
 
-    /// Dispatches, each time at most for `timeout`, and calls `callback` after each, until a signal of this loop stops it. That may come
-    /// in any dispatch or call, and from any thread; one that came before is forgotten. How many dispatches there are is up to whoever
-    /// has a signal, and without a stop it goes on for ever.
+    /// Dispatches, each time at most for `timeout`, and calls `callback` after each, until a signal of this loop stops the run.
+    /// The stop may come in any dispatch or call, and from any thread; an earlier one is forgotten. How many dispatches there are
+    /// is up to the holders of a signal, and without a stop the run goes on for ever.
     ///
-    /// The first error of a dispatch ends it, without a call behind that.
+    /// The first error of a dispatch ends the run, without another call.
     pub fn run<Q: Wait, F: FnMut(&mut D::Data)>(
         &mut self,
         rt: &Q,

@@ -8,9 +8,9 @@ use std::marker::Model;
 /// What a loop did with the stop of its signals.
 #[derive(Clone, Copy)]
 pub enum StopNote {
-    /// It forgot one that came before.
+    /// The loop forgot an earlier stop.
     Forgot,
-    /// It looked for one: whether it was stopped.
+    /// The loop looked for a stop: true if it was stopped.
     Looked(bool),
 }
 
@@ -38,14 +38,14 @@ impl Opening<(), StopNote> for Nothing {
     ghost log = { λ words x. [] };
 }
 
-// Notes, and one that is to stand behind them.
+// Notes, and one to be put behind them.
 #[derive(Clone, Copy)]
 struct WithNote<'a> {
     notes: &'a StopNotes,
     note: StopNote,
 }
 
-// One note more.
+// Another note.
 struct AndNote;
 
 impl Opening<WithNote<'_>, StopNote> for AndNote {
@@ -63,7 +63,7 @@ impl StopNotes {
         StopNotes { seen }
     }
 
-    // Notes this behind the others.
+    // Puts this note behind the others.
     pub(super) fn note(&mut self, note: StopNote)
         ensures { self.new ≡ self.old ++ note ∷ [] }
     {

@@ -1,4 +1,4 @@
-//! Sources that need it are told of each wait: before it, and with what it brought.
+//! Sources that need it are told of each wait: before it, and which events it brought.
 ghost use Rattle.std.specs.Prelude.{◌≡◌, ℕ, ◌+◌, ◌≤◌, ◌^◌, [], ◌∷◌, List, Option, OnOk, IfSome, None, length, vec_len};
 ghost use Rattle.calloop_slots.specs.declared.token.RegistrationToken.{RegistrationToken};
 ghost use Rattle.calloop_poll.specs.sys.Polls.{IsReady};
@@ -15,7 +15,7 @@ use calloop_slots::token::RegistrationToken;
 use std::sync::Wait;
 
 impl<D: EventDispatcher<P, C, R>, P: Poller, C: Clock, R: Wait + Drop> EventLoop<D, P, C, R> {
-    // For how many events the source of this registration may ask.
+    // The number of events for which the source of this registration may ask.
     fn limit_of(&self, token: RegistrationToken) -> u16
         ensures { result ≡ limit_in D.means (content_at self.now.sources token) }
     {
@@ -25,7 +25,7 @@ impl<D: EventDispatcher<P, C, R>, P: Poller, C: Clock, R: Wait + Drop> EventLoop
         }
     }
 
-    // For how many events those that are told may ask together, where that number fits.
+    // The number of events for which the sources that are told may ask together, if it fits.
     pub(super) fn limits(&self) -> Option<usize>
         ensures sum { IfSome result (λ sum. sum
             ≡ all_limits D.means self.now.sources self.now.lifecycle.tokens.items) }
@@ -78,7 +78,7 @@ impl<D: EventDispatcher<P, C, R>, P: Poller, C: Clock, R: Wait + Drop> EventLoop
         Ok(())
     }
 
-    // In the order of their entry. An error ends it.
+    // Tells the sources in the order of their entry. An error ends it.
     pub(super) fn tell_of_wait(&mut self, failure: &mut Error) -> Result<(), Failed>
         requires ready { IsReady
             (all_limits D.means self.old.sources self.old.lifecycle.tokens.items) self.old.poll }
@@ -113,7 +113,7 @@ impl<D: EventDispatcher<P, C, R>, P: Poller, C: Clock, R: Wait + Drop> EventLoop
         let _none = self.sources.end_turn(token, source);
     }
 
-    // In the order of their entry.
+    // Tells the sources in the order of their entry.
     pub(super) fn tell_of_events(&mut self, from: usize)
         ensures machine { (x : D.Data)
             → Goes D.means D.Idle.runs P.outside (Noticing from self.old.lifecycle.tokens.items x)

@@ -1,4 +1,4 @@
-//! What went wrong where nothing could be answered: a source that left the loop failed to take its registration back.
+//! Errors of calls that couldn't answer them: a source that left the loop failed to take its registration back.
 ghost use Rattle.std.specs.Prelude.{◌≡◌, [], Bool};
 ghost use Rattle.calloop_slots.specs.Failures.{with_error};
 ghost use Rattle.calloop_loop.specs.Held.{with_warning};
@@ -6,7 +6,7 @@ ghost use Rattle.calloop_loop.specs.Held.{with_warning};
 use calloop_slots::error::{Error, Failed, Result};
 use std::alloc::Global;
 
-/// In the order in which they came. Each is kept where there is memory for it.
+/// The errors in the order in which they came. Each is kept if there is memory for it.
 #[derive(Drop)]
 pub(super) struct Warnings {
     errors: Vec<Error>,
@@ -21,7 +21,7 @@ impl Warnings {
         }
     }
 
-    // Keeps the error of what was told, where it failed.
+    // Keeps the error of this answer, if it failed.
     pub(super) fn note(&mut self, told: Result<()>)
         ensures { (kept : Bool)
             × (self.new.errors.items ≡ with_warning kept told self.old.errors.items) }
@@ -31,7 +31,7 @@ impl Warnings {
         }
     }
 
-    // Keeps this failure, where what was told failed. Else no answer is made that has room for one.
+    // Keeps this failure, if the call failed. Else no answer is made that has room for one.
     pub(super) fn note_failure(&mut self, told: std::result::Result<(), Failed>, failure: Error)
         ensures { (kept : Bool) × (self.new.errors.items
             ≡ with_warning kept (with_error told failure) self.old.errors.items) }

@@ -11,7 +11,7 @@ use Rattle.calloop_sources.specs.declared.sources.source.PostAction.{PostAction}
 use Rattle.calloop_sources.specs.declared.sources.source.PostAction.TheVariants.{Continue}
 use Rattle.calloop_sources.specs.declared.generic.NoIoDrop.{NoIoDrop}
 
--- one more call, up to the greatest number of 64 bits
+-- another call, up to the greatest number of 64 bits
 abbrev pub one_call_more : ℕ → ℕ
 one_call_more calls = min (calls + 1) (2 ^ 64 - 1)
 
@@ -37,8 +37,8 @@ abbrev pub counts_and_stays : {I Q : Type 0} → Counts → Readiness → NoIoDr
 counts_and_stays callback readiness io calls asked answer after io' calls' asked' =
     (answer ≡ Ok Continue) × (io' ≡ io) × (calls' ≡ one_call_more calls)
 
--- each call of a socket whose byte is read, too, which goes on; where it can't be read, nothing is counted. What
--- becomes of the socket isn't said
+-- each call of a socket whose byte is read, too, which goes on; if it can't be read, nothing is counted. What becomes of the
+-- socket isn't said
 abbrev pub counts_and_reads : {B I Q : Type 0} → B → Readiness → NoIoDrop I → ℕ → Q → Result PostAction Cause
     → B → NoIoDrop I → ℕ → Q → Type 0
 counts_and_reads callback readiness io calls asked answer after io' calls' asked' =

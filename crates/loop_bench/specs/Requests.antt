@@ -1,4 +1,4 @@
--- What the arguments ask for.
+-- The requests of the arguments.
 use Rattle.std.specs.Prelude.{◌≡◌, ℕ, ◌<◌, ◌^◌, List, [], ◌∷◌, codes, String, string_bytes}
 use Rattle.std.specs.Str.Parse.{IsNumeral, digits_value, without_leading_plus}
 use Rattle.std.specs.Int.NonZero.{non_zero_u32_get}

@@ -1,4 +1,4 @@
--- The rows: how they are called, and what they count. Calloop has no such program.
+-- The rows: their names, and what they count. Calloop has no such program.
 use Rattle.std.specs.Prelude.{ℕ, ◌*◌, min, Bool, List, nat_eq, codes}
 use Rattle.std.specs.Cmp.Lexicographic.{pointwise}
 use Rattle.loop_bench.specs.declared.row.Kind.{Kind}
@@ -50,8 +50,8 @@ name_of WaitingSenders = codes "waiting_senders"
 abbrev pub is_named : List ℕ → Kind → Bool
 is_named name kind = pointwise nat_eq (name_of kind) name
 
--- in how many steps the time of a row is divided: each timer that fires is one, each ping that is inserted and served, each
--- socket that is read, each message, each future that is ready, and each wake
+-- the number of steps by which the time of a row is divided: each timer that fires is one, each ping that is inserted and served,
+-- each socket that is read, each message, each future that is ready, and each wake
 abbrev pub operations_of : Kind → (count size : ℕ) → ℕ
 operations_of RingAndDispatch count size = count
 operations_of TimersFired count size = count * size
@@ -74,8 +74,8 @@ operations_of TimeoutsReady count size = count * size
 operations_of TimerNear count size = count
 operations_of WaitingSenders count size = count * size
 
--- how many callbacks a row calls: one for each ring, one for each timer that fires, one for each socket that a wait tells of,
--- one for each message, and one for each future
+-- the number of callbacks that a row calls: one for each ring, one for each timer that fires, one for each socket that a wait
+-- tells of, one for each message, and one for each future
 abbrev pub calls_of : Kind → (count size : ℕ) → ℕ
 calls_of RingAndDispatch count size = count
 calls_of TimersFired count size = count * size

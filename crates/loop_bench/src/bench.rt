@@ -64,7 +64,7 @@ impl<I, Q: Asking> Callback<Readiness, NoIoDrop<I>, io::Result<PostAction>, u64,
 
     ghost may = { counts_and_stays };
 
-    // It reads nothing, so the socket stays readable.
+    // Reads nothing, so the socket stays readable.
     fn call(
         &mut self,
         _readiness: Readiness,
@@ -100,7 +100,7 @@ impl<I: ReadsByte, Q: Asking> Callback<Readiness, NoIoDrop<I>, io::Result<PostAc
     }
 }
 
-/// The sources of the rows, and the count of calls that each dispatch lends. Only what runs a row names them.
+/// The sources of the rows, and the count of calls that each dispatch lends. Only the code that runs a row names them.
 pub type Held<P, C, R> = Sources<
     OneOf<
         Dispatcher<PingSource<R>, Counts>,
@@ -121,25 +121,25 @@ pub type Held<P, C, R> = Sources<
     u64,
 >;
 
-/// The place of timers in it.
+/// The place of timers in `Held`.
 pub type Second = There<Here>;
 
-/// That of sockets which aren't read.
+/// The place of sockets which aren't read.
 pub type Third = There<Second>;
 
-/// That of channels.
+/// The place of channels.
 pub type Fourth = There<Third>;
 
-/// That of sockets which are read.
+/// The place of sockets which are read.
 pub type Fifth = There<Fourth>;
 
-/// That of executors.
+/// The place of executors.
 pub type Sixth = There<Fifth>;
 
-/// That of timeouts.
+/// The place of timeouts.
 pub type Seventh = There<Sixth>;
 
-/// A loop, the calls of its callbacks, and the time that was measured, in nanoseconds.
+/// A loop, the number of calls of its callbacks, and the time that was measured, in nanoseconds.
 #[derive(Drop)]
 pub struct Bench<D: EventDispatcher<P, C, R>, P: Poller, C: Clock, R: Wait + Drop> {
     pub rt: R,
@@ -164,7 +164,7 @@ where
     C: Clock,
     R: Wait + time::Clock + Clone + Drop,
 {
-    /// A loop without sources. Nothing was measured yet.
+    /// Makes a loop without sources. Nothing was measured yet.
     pub fn new(rt: &R, alloc: Global) -> Result<Bench<D, P, C, R>>
         ensures { IfOk result (λ made. (made.calls ≡ 0) × (made.nanoseconds ≡ 0)) }
     {
@@ -179,12 +179,12 @@ where
         })
     }
 
-    /// When a span of time begins that is to be measured.
+    /// Returns the beginning of a span of time that is to be measured.
     pub fn start(&self) -> Result<time::Instant> {
         time::Instant::now(&self.rt).context("reading the clock")
     }
 
-    /// Adds the time since then to what was measured.
+    /// Adds the time since then to the measured time.
     pub fn stop(&mut self, began: time::Instant) -> Result<()>
         ensures adds { self.old.nanoseconds ≤ self.new.nanoseconds }
         ensures calls { self.new.calls ≡ self.old.calls }
@@ -195,7 +195,7 @@ where
         Ok(())
     }
 
-    /// A dispatch that doesn't wait.
+    /// Dispatches without waiting.
     pub fn dispatch(&mut self) -> calloop::Result<()>
         ensures { self.new.nanoseconds ≡ self.old.nanoseconds }
     {
@@ -203,7 +203,7 @@ where
             .dispatch(&self.rt, Some(Duration::ZERO), &mut self.calls)
     }
 
-    /// A dispatch that waits for ten seconds at most.
+    /// Dispatches and waits for at most ten seconds.
     pub fn wait(&mut self) -> calloop::Result<()>
         ensures { self.new.nanoseconds ≡ self.old.nanoseconds }
     {
@@ -211,7 +211,7 @@ where
             .dispatch(&self.rt, Some(Duration::from_secs(10)), &mut self.calls)
     }
 
-    /// What the loop's clock shows.
+    /// The present time of the loop's clock.
     pub fn now(&self) -> Instant
         ensures { C.shows self.now.clock result.nanos }
     {
@@ -229,12 +229,12 @@ where
             .come_to(&self.rt, moment);
     }
 
-    /// A ping that is registered nowhere, with its source.
+    /// Makes a ping, and its source, which isn't registered yet.
     pub fn make_ping(&self) -> Result<(Ping<R>, PingSource<R>)> {
         Ok(make_ping(&self.rt, self.alloc)?)
     }
 
-    /// What holds the source of a ping in the loop.
+    /// The loop's entry for the source of a ping.
     pub fn hold_ping(source: PingSource<R>) -> D {
         <D as Choice<PingSource<R>, Counts, Here>>::hold(Dispatcher::new(source, Counts))
     }
@@ -265,7 +265,7 @@ where
         Ok(pings)
     }
 
-    /// Puts a channel into the loop: its sender.
+    /// Puts a channel into the loop. Returns its sender.
     pub fn insert_channel(&mut self) -> Result<Sender<u64, R>>
         ensures calls { self.new.calls ≡ self.old.calls }
         ensures nanoseconds { self.new.nanoseconds ≡ self.old.nanoseconds }
@@ -275,7 +275,7 @@ where
         Ok(sender)
     }
 
-    /// The same of a channel with a bound.
+    /// Puts a channel with a bound into the loop. Returns its sender.
     pub fn insert_sync_channel(&mut self, bound: u32) -> Result<SyncSender<u64, R>>
         ensures calls { self.new.calls ≡ self.old.calls }
         ensures nanoseconds { self.new.nanoseconds ≡ self.old.nanoseconds }
@@ -290,7 +290,7 @@ where
         <D as Choice<Channel<u64, R>, Counts, Fourth>>::hold(dispatcher)
     }
 
-    /// Puts so many sockets into the loop, each with a byte to be read: their peers.
+    /// Puts so many sockets into the loop, each with a byte to be read. Returns their peers.
     pub fn insert_sockets(&mut self, size: u32) -> Result<Vec<P::Peer>>
         ensures calls { self.new.calls ≡ self.old.calls }
         ensures nanoseconds { self.new.nanoseconds ≡ self.old.nanoseconds }
@@ -307,7 +307,7 @@ where
         Ok(peers)
     }
 
-    /// Puts so many sockets into the loop in this mode, which are read by their callback: their peers, which have sent nothing.
+    /// Puts so many sockets into the loop in this mode, read by their callback. Returns their peers, which have sent nothing.
     pub fn insert_read_sockets(&mut self, size: u32, mode: Mode) -> Result<Vec<P::Peer>>
         ensures peers { IfOk result (λ peers. vec_len peers ≡ size) }
         ensures calls { self.new.calls ≡ self.old.calls }
@@ -324,7 +324,7 @@ where
         Ok(peers)
     }
 
-    /// Puts an executor into the loop: its scheduler.
+    /// Puts an executor into the loop. Returns its scheduler.
     pub fn insert_executor(&mut self) -> Result<Scheduler<Task<C, R>, R>>
         ensures calls { self.new.calls ≡ self.old.calls }
         ensures nanoseconds { self.new.nanoseconds ≡ self.old.nanoseconds }
@@ -335,7 +335,7 @@ where
         Ok(scheduler)
     }
 
-    /// A future that is ready at this moment.
+    /// Makes a future that is ready at this moment.
     pub fn make_timeout(&mut self, deadline: Instant) -> Result<TimeoutFuture<C, R>>
         ensures calls { self.new.calls ≡ self.old.calls }
         ensures nanoseconds { self.new.nanoseconds ≡ self.old.nanoseconds }
@@ -345,12 +345,12 @@ where
         Ok(timeout)
     }
 
-    /// Where a future and another thread meet, before either of them came.
+    /// Makes the meeting of a future and another thread, before either of them came.
     pub fn make_meeting(&self) -> Result<Arc<Meeting<R>, Global>> {
         Ok(Arc::new(self.alloc, Meeting::new(self.rt.clone()?))?)
     }
 
-    /// Arms a timer for this moment, where the loop has room for it.
+    /// Arms a timer for this moment, if the loop has room for it.
     pub fn insert_timer(&mut self, deadline: Instant) -> Option<RegistrationToken>
         ensures calls { self.new.calls ≡ self.old.calls }
         ensures nanoseconds { self.new.nanoseconds ≡ self.old.nanoseconds }
@@ -373,7 +373,7 @@ where
     }
 }
 
-/// Within how many nanoseconds the scattered moments lie.
+/// The span of the scattered moments, in nanoseconds.
 pub const SCATTER: u64 = 1 << 20;
 
 /// The moment of this number among 2^20 that are a nanosecond apart, in an order that goes to and fro. Further numbers give them again.

@@ -46,7 +46,7 @@ fn measure<R: Runtime + AllocGlobal + Threads + Wait + Net + Send + Sync + 'stat
     Ok(())
 }
 
-// Each row three times over two sources, without its time.
+// Runs each row three times over two sources, without printing its time.
 fn check<R: Runtime + AllocGlobal + Threads + Wait + Net + Send + Sync + 'static>(
     rt: &R,
     alloc: Global,

@@ -11,7 +11,7 @@ use std::time::Clock as MachineClock;
 
 /// A socket that a callback can read.
 pub trait ReadsByte {
-    /// Reads a byte. Where none is there the error is of kind `WouldBlock`, and at the end of the stream `UnexpectedEof`.
+    /// Reads a byte. If there is none the error is of kind `WouldBlock`, and at the end of the stream `UnexpectedEof`.
     fn read_byte(&mut self) -> io::Result<()>;
 }
 
@@ -29,13 +29,13 @@ pub trait Measured<C: Clock, R>: Poller + Sized {
     /// The other end of a socket, which has to stay.
     type Peer: Drop;
 
-    /// What the output calls it.
+    /// The poller's name in the output.
     fn name() -> &'static str;
 
-    /// One that nothing is registered with, and its clock.
+    /// Makes a poller with which nothing is registered, and its clock.
     fn make(rt: &R, alloc: Global) -> Result<(Self, C)>;
 
-    /// A socket and its peer, which has sent nothing.
+    /// Makes a socket and its peer, which has sent nothing.
     fn pair(rt: &R) -> Result<(Self::Io, Self::Peer)>;
 
     /// Sends a byte.
@@ -45,7 +45,7 @@ pub trait Measured<C: Clock, R>: Poller + Sized {
     fn come_to(&mut self, rt: &R, moment: Instant);
 }
 
-/// Each dispatch has a call of the system in it.
+/// A poller whose every dispatch makes a system call.
 impl<R> Measured<SystemClock<R>, R> for MioPoller<SystemClock<R>>
 where
     R: Net + MachineClock + Wait + Clone + Drop,

@@ -1,4 +1,4 @@
-//! What the program is asked for by its arguments.
+//! The program's request, read from its arguments.
 ghost use Rattle.std.specs.Prelude.{ℕ, MatchResult};
 ghost use Rattle.std.specs.Int.NonZero.{non_zero_u32_get};
 ghost use Rattle.loop_bench.specs.Requests.{IsNumber, IsRow, Asks};
@@ -25,7 +25,7 @@ pub enum Unreadable<'a> {
     Usage,
     /// No row has this name.
     Row(&'a str),
-    /// This is no whole number from 1 to 2^32 - 1.
+    /// This isn't a whole number from 1 to 2^32 - 1.
     Number(&'a str),
 }
 

@@ -9,7 +9,7 @@ use std::num::NonZeroU32;
 // The most events of one wait.
 const EVENTS_PER_WAIT: u64 = 1024;
 
-/// What a row measures.
+/// The kinds of rows, by what they measure.
 #[derive(Clone, Copy, Debug, PartialEq, Eq)]
 pub enum Kind {
     /// Rings one of the pings in turn, and dispatches.
@@ -30,17 +30,17 @@ pub enum Kind {
     PingsRung,
     /// Dispatches while sockets are readable.
     ReadableSockets,
-    /// Dispatches until a byte that came to each socket was read, where each change is told of once.
+    /// Dispatches until a byte that came to each socket was read, if each change is told of once.
     EdgeSockets,
-    /// The same where a socket is told of as long as it is readable.
+    /// The same, if a socket is told of as long as it is readable.
     LevelSockets,
     /// Sends messages to a channel, and dispatches until all are handed out.
     MessagesServed,
-    /// The same of a channel with a bound.
+    /// The same with a channel with a bound.
     BoundedMessagesServed,
     /// Dispatches, each with a wait, until all messages of another thread are handed out.
     ThreadMessagesServed,
-    /// The same of a channel with a bound, whose sender waits for room.
+    /// The same with a channel with a bound, whose sender waits for room.
     BoundedThreadMessagesServed,
     /// Schedules futures that are ready, and dispatches until the results of all are handed out.
     ReadyFutures,
@@ -55,7 +55,7 @@ pub enum Kind {
 }
 
 impl Kind {
-    /// Each of them once, in the order in which they are printed.
+    /// Each kind once, in the order in which they are printed.
     pub const ALL: [Kind; 20] = [
         Kind::RingAndDispatch,
         Kind::TimersFired,
@@ -79,7 +79,7 @@ impl Kind {
         Kind::WaitingSenders,
     ];
 
-    /// Its name among the arguments, and in what is printed.
+    /// The kind's name among the arguments, and in what is printed.
     pub fn name(self) -> &'static str
         ensures { result.now ≡ name_of self }
     {
@@ -116,7 +116,7 @@ impl Kind {
     }
 }
 
-/// What is measured, how often, and with how many sources.
+/// A row: what is measured, how often, and with how many sources.
 #[derive(Clone, Copy, Debug)]
 pub struct Row {
     pub kind: Kind,
@@ -125,8 +125,8 @@ pub struct Row {
 }
 
 impl Row {
-    /// In how many steps its time is divided: each timer that fires is one, each ping that is inserted and served, each socket that is
-    /// read, each message, each future that is ready, and each wake.
+    /// The number of steps by which the row's time is divided: each timer that fires is one, each ping that is inserted and
+    /// served, each socket that is read, each message, each future that is ready, and each wake.
     pub fn operations(&self) -> u64
         ensures value { result ≡ operations_of self.now.kind
             (non_zero_u32_get self.now.count) (non_zero_u32_get self.now.size) }
@@ -151,7 +151,7 @@ impl Row {
         }
     }
 
-    /// How many callbacks it has to call.
+    /// The number of callbacks that the row has to call.
     pub fn calls(&self) -> u64
         ensures { result ≡ calls_of self.now.kind
             (non_zero_u32_get self.now.count) (non_zero_u32_get self.now.size) }

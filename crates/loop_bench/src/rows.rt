@@ -1,4 +1,4 @@
-//! Runs the rows. What is set up before isn't measured.
+//! Runs the rows. The set-up before isn't measured.
 use crate::bench::{
     Bench, Counts, Fifth, Fourth, Held, Reads, SCATTER, Second, Seventh, Sixth, Third, scatter,
 };
@@ -17,10 +17,10 @@ use std::sync::{Arc, Wait};
 use std::thread::{Threads, spawn};
 use std::time::{self, Duration};
 
-// In how many seconds the timers are due that don't fire while a row runs.
+// The number of seconds until the timers are due that don't fire while a row runs.
 const FAR: u64 = 1_000_000;
 
-/// Runs a row, and answers what it took, in nanoseconds. An error says what went wrong, also where not as many callbacks were called as had to be.
+/// Runs a row, and returns its time in nanoseconds. An error says what went wrong, also a wrong number of called callbacks.
 pub fn run<P, C, R>(rt: &R, alloc: Global, row: &Row) -> Result<u64>
 where
     P: Measured<C, R>,
@@ -28,7 +28,7 @@ where
     C: Clock,
     R: Threads + Wait + time::Clock + Clone + Drop + Send + Sync + 'static,
 {
-    // This alone knows of which types the loop is, and calls nothing else: each such call costs the prover as much as a row.
+    // Only this knows the loop's types, and it calls nothing else: each such call costs the prover as much as a row.
     run_over::<Held<P, C, R>, P, C, R>(rt, alloc, row)
 }
 
@@ -131,7 +131,7 @@ where
         self.stop(began)
     }
 
-    // Arms so many timers that are far from due, and answers from which moment on.
+    // Arms so many timers that are far from due, and returns the moment from which on they are due.
     fn insert_far_timers(&mut self, size: u32) -> Result<Instant> {
         let far = self.now().after(Duration::from_secs(FAR));
         self.insert_timers(size, far)?;
@@ -192,7 +192,7 @@ where
         Ok(())
     }
 
-    // One round: that the pings are dropped and leave the loop isn't measured.
+    // One round: dropping the pings, and their leaving the loop, isn't measured.
     fn serve_pings(&mut self, size: u32) -> Result<()> {
         let wanted = self.calls.saturating_add(u64::from(size));
         let began = self.start()?;
@@ -220,7 +220,7 @@ where
         self.stop(began)
     }
 
-    // How long after its deadline a dispatch has called a timer that was SIZE microseconds ahead, and returned.
+    // Measures how long after its deadline a dispatch has called a timer that was SIZE microseconds ahead, and returned.
     fn timer_near(&mut self, count: u32, size: u32) -> Result<()> {
         for _ in 0..count {
             let wanted = self.calls.saturating_add(1);
@@ -362,7 +362,7 @@ where
         self.stop(began)
     }
 
-    // Schedules as many futures that are ready at the scattered moments from this one on.
+    // Schedules so many futures that are ready at the scattered moments from this one on.
     fn schedule_timeouts(
         &mut self,
         scheduler: &Scheduler<Task<C, R>, R>,
@@ -402,7 +402,7 @@ where
         Ok(())
     }
 
-    // Dispatches that wait for ten seconds at most, until so many calls were made in all: at most four for each of this size.
+    // Dispatches, waiting for at most ten seconds each, until so many calls were made in all: at most four for each of this size.
     fn wait_until(&mut self, calls: u64, size: u32) -> Result<()> {
         for _ in 0..u64::from(size) * 4 {
             if self.calls >= calls {
@@ -413,7 +413,7 @@ where
         Ok(())
     }
 
-    // Dispatches, at most so often, until so many calls were made in all.
+    // Dispatches, at most so many times, until so many calls were made in all.
     fn dispatch_until(&mut self, calls: u64, most: u32) -> Result<()> {
         for _ in 0..most {
             if self.calls >= calls {
@@ -433,7 +433,7 @@ fn send_all<P: Measured<C, R>, C: Clock, R>(peers: &mut [P::Peer]) -> Result<()>
     Ok(())
 }
 
-// Schedules as many futures that are ready.
+// Schedules so many futures that are ready.
 fn schedule_ready<C: Clock, R: Wait + Clone + Drop>(
     scheduler: &Scheduler<Task<C, R>, R>,
     size: u32,
@@ -445,7 +445,7 @@ fn schedule_ready<C: Clock, R: Wait + Clone + Drop>(
     Ok(())
 }
 
-// Wakes the future of this waker so often. Each wake is counted before it is made, so that the poll after it finds it.
+// Wakes the future of this waker so many times. Each wake is counted before it is made, so that the poll after it finds it.
 fn wakes<R: Wait + Drop>(meeting: &Meeting<R>, waker: &Waker<R>, size: u32) {
     for _ in 0..size {
         meeting.count_wake();
@@ -453,7 +453,7 @@ fn wakes<R: Wait + Drop>(meeting: &Meeting<R>, waker: &Waker<R>, size: u32) {
     }
 }
 
-// Sends as many messages: the sender, where none was refused.
+// Sends so many messages. Returns the sender, if no send failed.
 fn sends<R: Wait + Drop>(sender: Sender<u64, R>, size: u32) -> Option<Sender<u64, R>> {
     for message in 0..size {
         if sender.send(u64::from(message)).is_err() {
@@ -463,7 +463,7 @@ fn sends<R: Wait + Drop>(sender: Sender<u64, R>, size: u32) -> Option<Sender<u64
     Some(sender)
 }
 
-// The same of a channel with a bound.
+// The same with a channel with a bound.
 fn sends_waiting<R: Wait + Drop>(
     sender: SyncSender<u64, R>,
     size: u32,

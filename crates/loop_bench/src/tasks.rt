@@ -5,7 +5,7 @@ use std::alloc::Global;
 use std::sync::atomic::{AtomicU32, Ordering};
 use std::sync::{Arc, Mutex, Wait};
 
-/// Where a future and the thread that wakes it meet.
+/// The meeting of a future and the thread that wakes it.
 #[derive(Drop)]
 pub struct Meeting<R: Wait + Drop> {
     rt: R,
@@ -14,7 +14,7 @@ pub struct Meeting<R: Wait + Drop> {
 }
 
 impl<R: Wait + Drop> Meeting<R> {
-    /// Without a waker. Nobody woke yet.
+    /// Makes a meeting without a waker. Nobody woke yet.
     pub fn new(rt: R) -> Meeting<R> {
         Meeting {
             rt,
@@ -40,7 +40,7 @@ impl<R: Wait + Drop> Meeting<R> {
         drop(before);
     }
 
-    // How many wakes were counted.
+    // The number of counted wakes.
     fn wakes(&self) -> u32 {
         self.wakes.load(Ordering::SeqCst)
     }
@@ -55,7 +55,7 @@ pub struct Sleeper<R: Wait + Drop> {
 }
 
 impl<R: Wait + Clone + Drop> Sleeper<R> {
-    /// Not polled yet.
+    /// Makes a future that wasn't polled yet.
     pub fn new(meeting: Arc<Meeting<R>, Global>, wanted: u32) -> Sleeper<R> {
         Sleeper {
             meeting,
@@ -79,11 +79,11 @@ impl<R: Wait + Clone + Drop> Sleeper<R> {
 /// A future of the rows.
 #[derive(Drop)]
 pub enum Task<C: Clock, R: Wait + Drop> {
-    /// It is ready at its first poll.
+    /// The future is ready at its first poll.
     IsReady,
-    /// It waits for wakes.
+    /// The future waits for wakes.
     Sleeps(Sleeper<R>),
-    /// It waits for a moment.
+    /// The future waits for a moment.
     Lasts(TimeoutFuture<C, R>),
 }
 

@@ -136,7 +136,7 @@ pub line_asks : (s t : State) (said : List ℕ) (command : Option Command) → C
 line_asks s t said (Some command) h = command_asks s t said command h
 line_asks s t said None h = no_outcome (t, said) h
 
--- Lists of calls, one list behind the other.
+-- Lists of calls, one behind the other.
 
 run_append : (calls more : List ScriptCall) (answers others : List ScriptAnswerOf) (csss dsss : List (List (List (Change Source (Unit {0}) ScriptPoller)))) (w u x : World Source (Unit {0}) ScriptPoller)
     → Run source_meaning no_idles script_outside calls answers csss w u → Run source_meaning no_idles script_outside more others dsss u x

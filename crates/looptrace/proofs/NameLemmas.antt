@@ -1,4 +1,4 @@
--- The map of names, where a name isn't in it.
+-- The map of names, if a name isn't in it.
 use Rattle.std.proofs.Common.{◌≡◌, Bool, true, false, cond, List, [], ◌∷◌, ap, refl, Option, Some, None, is_some}
 use mathlib.Core.Bool.{true≢false}
 use Rattle.std.specs.Map.{lookup, set_value}

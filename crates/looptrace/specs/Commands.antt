@@ -1,4 +1,4 @@
--- The commands of a script, a line each.
+-- The commands of a script, one on each line.
 use Rattle.std.specs.Prelude.{
   ℕ,
   ◌+◌,
@@ -56,11 +56,11 @@ is_name_byte b = is_digit b || (nat_le 97 b && nat_le b 122)
 abbrev pub is_name : List ℕ → Bool
 is_name word = nat_le 1 (length word) && nat_le (length word) 32 && list_all is_name_byte word
 
--- the word itself, where it is a name
+-- the word itself, if it is a name
 abbrev pub name_of : List ℕ → Option (List ℕ)
 name_of word = if is_name word then Some word else None
 
--- the value of more digits after those of this value, where it fits 64 bits
+-- the value of further digits after those of this value, if it fits 64 bits
 abbrev pub digits_from : ℕ → List ℕ → Option ℕ
 digits_from value [] = Some value
 digits_from value (b ∷ bs) =
@@ -87,7 +87,7 @@ ring_of word = option_map Ring (name_of word)
 abbrev pub close_of : List ℕ → Option Command
 close_of word = option_map Close (name_of word)
 
--- a command that makes a timer, where both words can be read
+-- a command that makes a timer, if both words can be read
 abbrev pub timer_with : (name : Option (List ℕ)) → (deadline : Option ℕ) → Option Command
 timer_with None deadline = None
 timer_with (Some name) None = None
@@ -104,7 +104,7 @@ is_space b = b == 32
 abbrev pub timer_of : List ℕ → Option Command
 timer_of words = timer_parted (position is_space words) words
 
--- a command that removes what a token names, where both numbers can be read
+-- a command that removes what a token names, if both numbers can be read
 abbrev pub remove_with : (slot version : Option ℕ) → Option Command
 remove_with None version = None
 remove_with (Some slot) None = None
@@ -126,7 +126,7 @@ readiness_of word =
     else if pointwise nat_eq word (codes "rw") then Some (record { readable = true; writable = true; error = false })
     else None
 
--- a command that adds an event to the pending answer, where both words can be read
+-- a command that adds an event to the pending answer, if both words can be read
 abbrev pub answer_with : (key : Option ℕ) → Option Readiness → Option Command
 answer_with None readiness = None
 answer_with (Some key) None = None
@@ -155,7 +155,7 @@ other_of line =
     if starts_with nat_eq line (codes "remove ") then remove_of (drop 7 line)
     else if starts_with nat_eq line (codes "answer ") then answer_of (drop 7 line) else dispatch_of line
 
--- the command of a line, where the line can be read
+-- the command of a line, if the line can be read
 abbrev pub command_of : List ℕ → Option Command
 command_of line =
     if length line == 0 then Some Nothing

@@ -1,4 +1,4 @@
--- What the lines of a script ask of the loop, for the law of its timers.
+-- The calls that the lines of a script make, for the law of its timers.
 use Rattle.std.specs.Prelude.{◌≡◌, ◌⊎◌, ℕ, List, [], ◌∷◌, Option}
 use Rattle.logbook.specs.Pages.{Book}
 use Rattle.calloop_script.specs.declared.ScriptPoller.{ScriptPoller}
@@ -41,8 +41,8 @@ pub record Asks (old new : View Source (Unit {0}) ScriptPoller) : Type 0 where
   pub scripted : AllScripted calls
   pub leads : RunLeads source_meaning no_idles script_outside calls answers old new
 
--- From every machine to which nothing has happened, and that agrees with what a loop held, there is a run to one that agrees with what it
--- then holds, in which no timer is called early, nor twice for one arming.
+-- From every machine to which nothing has happened, and that agrees with what a loop held, there is a run to one that agrees with
+-- what it then holds, in which no timer is called early, nor twice for one arming.
 abbrev pub LeadsInTime : (old new : View Source (Unit {0}) ScriptPoller) → Type 0
 LeadsInTime old new =
     (u : World Source (Unit {0}) ScriptPoller) → IsNew u → visible u ≡ old

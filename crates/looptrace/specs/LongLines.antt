@@ -1,5 +1,5 @@
--- Proofs that a line of more bytes than `longest` has no command, so that it can't be carried out. They define nothing; the
--- impls of runners cite them, so they stand here.
+-- Proofs that a line of more bytes than `longest` has no command, so that it can't be carried out. They define nothing; the impls
+-- of runners cite them, so they stand here.
 use Rattle.std.proofs.Common.{◌≡◌, ℕ, zero, suc, ◌+◌, ◌-◌, ◌*◌, ◌^◌, ◌≤◌, ◌<◌, Bool, true, false, ◌&&◌, List, [], ◌∷◌, length, take, drop, Option, Some, None, ⊎_elim, nat_lt, nat_le, nat_eq, ◌==◌, cond, refl, sym, ap, subst, ◌∙◌, arith, length-take, length-drop, ne_eqb, true≢false}
 use Rattle.std.proofs.Math.Nat.{pow-le-pow_right, pow-suc}
 use Rattle.std.proofs.lemmas.Bool.{cases_lt}
@@ -16,7 +16,7 @@ abbrev IsThere : {A : Type 0} → Option A → Type 0
 IsThere None = ⊥
 IsThere (Some a) = Unit {0}
 
--- What is there by a test is there by one of its branches.
+-- If a test yields a value, one of its branches does.
 
 by_test : {A N : Type 0} (b : Bool) (o p : Option A) → (b ≡ true → IsThere o → N) → (b ≡ false → IsThere p → N) → IsThere (cond b o p) → N
 by_test true o p f g h = f refl h

@@ -11,7 +11,7 @@ use Rattle.logbook.specs.Pages.{Book}
 abbrev pub Named : Type 0
 Named = List ℕ × Option Book
 
--- what stands under this name
+-- the entry under this name
 abbrev pub stands_under : (name : List ℕ) → List Named → Option (Option Book)
 stands_under name ss = lookup (is_at (slice_cmp nat_cmp name)) ss
 

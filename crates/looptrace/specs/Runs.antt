@@ -1,5 +1,5 @@
--- What a line of a script does with the loop, and what it prints: each line is a list of cases of the loop's machine,
--- and its text is what they answered. The asked waits are those that the scripted poller notes.
+-- What a line of a script does with the loop, and what it prints: each line is a list of cases of the loop's machine, and its
+-- text is their answers. The requested waits are those that the scripted poller notes.
 use Rattle.std.specs.Prelude.{◌≡◌, ℕ, ◌-◌, ◌^◌, ◌≤◌, ◌<◌, ◌&&◌, ◌||◌, min, nat_lt, Bool, true, false, if◌then◌else◌}
 use Rattle.std.specs.Prelude.{List, [], ◌∷◌, ◌++◌, length, codes, vec_capacity}
 use Rattle.std.specs.Prelude.{Option, Some, None, IsSome, Result, Ok, Err}
@@ -56,7 +56,7 @@ use Rattle.looptrace.specs.declared.source.Teller.{Teller}
 use Rattle.looptrace.specs.declared.source.Alarm.{Alarm}
 use Rattle.looptrace.specs.Sources.{Source, timer_in, source_meaning, no_idles}
 
--- the answer that waits for a wait: what the clock showed at its last event, and its events
+-- the answer for the next wait: what the clock showed at its last event, and its events
 pub record Pending : Type 0 where
   pub moment : Instant
   pub events : List (ℕ × Readiness)
@@ -97,7 +97,7 @@ abbrev pub Calls : LoopCall Source ScriptPoller (Option (List ℕ)) (Unit {0})
     → View Source (Unit {0}) ScriptPoller → View Source (Unit {0}) ScriptPoller → Type 0
 Calls call answer old new = Did (Case source_meaning no_idles script_outside call answer) old new
 
--- the names of the refusals
+-- the names of the errors
 abbrev pub word_of : Error → List ℕ
 word_of InvalidToken = codes "InvalidToken"
 word_of (IoError cause) = codes "IoError"
@@ -114,7 +114,7 @@ abbrev pub answer_text : Result (Unit {0}) Error → List ℕ
 answer_text (Ok u) = []
 answer_text (Err error) = refused_text (word_of error)
 
--- an asked wait in nanoseconds, at most 2^64 - 1
+-- a requested wait in nanoseconds, at most 2^64 - 1
 abbrev pub nanos_in : Option Duration → Option ℕ
 nanos_in None = None
 nanos_in (Some time) = Some (min (as_nanos time) (2 ^ 64 - 1))
@@ -123,14 +123,14 @@ abbrev pub waits_text : List (Option Duration) → List ℕ
 waits_text [] = []
 waits_text (asked ∷ later) = wait_text (nanos_in asked) ++ waits_text later
 
--- an insertion prints its token, and its name is kept with its ping; that of a refused one isn't
+-- an insertion prints its token, and its name is kept with its ping; if it fails, the name isn't kept
 abbrev pub InsertSays : {S : Type 0} → List ℕ → (ping : Option Book) → Result RegistrationToken (InsertError S)
     → List Named → List Named → List ℕ → Type 0
 InsertSays name ping (Ok token) before after said =
     (after ≡ with_source name ping before) × (said ≡ insert_text name token.slot token.version)
 InsertSays name ping (Err refused) before after said = (after ≡ before) × (said ≡ refused_text (word_of refused.error))
 
--- a source that was made so is inserted under a name that no source has yet; under another name the line can't be read
+-- a source that was made so is inserted under a name that no source has yet; with a taken name the line can't be read
 abbrev pub InsertLine : State → List ℕ → (made : Source → Option Book → Type 0)
     → Option (State × List ℕ) → Type 0
 InsertLine s name made None = is_taken name s.sources ≡ true
@@ -140,8 +140,8 @@ InsertLine s name made (Some (t, said)) =
     × Calls (Insert source) (Inserted answer) s.loop t.loop
     × InsertSays name ping answer s.sources t.sources said × (t.fault ≡ s.fault) × (t.pending ≡ s.pending)
 
--- a source of a cell that no turn took a ring of, registered nowhere, with a callback that says its name, and the
--- cell's ping
+-- a source of a cell that no turn took a ring of, which isn't registered yet, with a callback that says its name, and the cell's
+-- ping
 abbrev pub IsPingOf : List ℕ → OneOf (Dispatcher Tally Teller) (Dispatcher TimerSource Alarm)
     → Option Book → Type 0
 IsPingOf name (First d) ping =
@@ -161,19 +161,19 @@ new_timer name deadline =
 abbrev pub IsNewTimer : List ℕ → (deadline : ℕ) → Source → Option Book → Type 0
 IsNewTimer name deadline source ping = (source ≡ new_timer name deadline) × (ping ≡ None)
 
--- an open ping of this name is rung, which is seen of nothing here and prints nothing; where there is none, the line
--- can't be read
+-- an open ping of this name is rung, of which nothing is seen here and which prints nothing; if there is none, the line can't be
+-- read
 abbrev pub RingLine : State → List ℕ → Option (State × List ℕ) → Type 0
 RingLine s name None = ping_named name s.sources ≡ None
 RingLine s name (Some (t, said)) = IsSome (ping_named name s.sources) × (t ≡ s) × (said ≡ [])
 
--- the open ping of this name is dropped, which prints nothing; where there is none, the line can't be read
+-- the open ping of this name is dropped, which prints nothing; if there is none, the line can't be read
 abbrev pub CloseLine : State → List ℕ → Option (State × List ℕ) → Type 0
 CloseLine s name None = ping_named name s.sources ≡ None
 CloseLine s name (Some (t, said)) =
     IsSome (ping_named name s.sources) × (t ≡ record s { sources = without_ping name s.sources }) × (said ≡ [])
 
--- the token of these numbers, where a token can hold them
+-- the token of these numbers, if a token can hold them
 abbrev pub token_with : (slot version : ℕ) → Option RegistrationToken
 token_with slot version =
     if nat_lt slot most_slots && nat_lt version versions then Some (record { slot = slot; version = version }) else None
@@ -208,7 +208,7 @@ abbrev pub events_of : Option Pending → List (ℕ × Readiness)
 events_of None = []
 events_of (Some pending) = pending.events
 
--- one event more in the pending answer, whose moment is what the clock shows; a 1,025th can't be read
+-- another event in the pending answer, whose moment is what the clock shows; a 1,025th can't be read
 abbrev pub AnswerLine : State → (key : ℕ) → Readiness → Option (State × List ℕ) → Type 0
 AnswerLine s key readiness None = events_per_wait ≤ length (events_of s.pending)
 AnswerLine s key readiness (Some (t, said)) =
@@ -220,8 +220,8 @@ AnswerLine s key readiness (Some (t, said)) =
       });
     }) × (said ≡ [])
 
--- What the next wait gives: a fault where one is asked for, at the moment that the clock shows, so that it leaves the
--- clock unmoved; else the pending answer.
+-- The outcome of the next wait: a fault if one is asked for, at the moment that the clock shows, so that it leaves the clock
+-- unmoved; else the pending answer.
 abbrev pub NextAnswer : (fault : Bool) → Option Pending → (now : Instant) → List ScriptAnswer → Type 0
 NextAnswer true pending now answers = answers ≡ record { moment = now; end = FaultEnd } ∷ []
 NextAnswer false None now answers = answers ≡ []
@@ -229,8 +229,8 @@ NextAnswer false (Some pending) now answers =
     (events : ScriptEvents) × (events.events.items ≡ pending.events)
     × (answers ≡ record { moment = pending.moment; end = Events events } ∷ [])
 
--- the same poller with an empty list of asked waits, in which there is room for one, and with a script of just what the
--- next wait gives
+-- the same poller with an empty list of requested waits, in which there is room for one, and with a script of just the outcome of
+-- the next wait
 pub record IsPrepared (fault : Bool) (pending : Option Pending) (p q : ScriptPoller) : Type 0 where
   pub same : q ≡ record p { answers = q.answers; waits = q.waits }
   pub answers : NextAnswer fault pending p.moment q.answers.items
@@ -242,16 +242,16 @@ pub record IsTakenBack (p q : ScriptPoller) : Type 0 where
   pub same : q ≡ record p { answers = q.answers }
   pub answers : q.answers.items ≡ []
 
--- Where the script stands still after a dispatch, that was refused before its wait, and what was pending stays so. Else
--- the wait took a fault, which only delays the answer, or the answer.
+-- If the script is unused after a dispatch, the dispatch failed before its wait, and what was pending stays so. Else the wait
+-- took a fault, which only delays the answer, or the answer.
 abbrev pub fault_after : (stands fault : Bool) → Bool
 fault_after stands fault = stands && fault
 
 abbrev pub pending_after : (stands fault : Bool) → Option Pending → Option Pending
 pending_after stands fault pending = if stands || fault then pending else None
 
--- a dispatch over a poller that is ready for its wait, which is then without a script again; the text is the asked
--- waits, then what the callbacks said, then the refusal
+-- a dispatch over a poller that is ready for its wait, which is then without a script again; the text is the requested waits,
+-- then what the callbacks said, then the error
 pub record DispatchLine (s : State) (timeout : Option ℕ) (t : State) (said : List ℕ) : Type 0 where
   pub ready : ScriptPoller
   pub is_ready : IsPrepared s.fault s.pending s.loop.poll.poller ready
@@ -270,7 +270,7 @@ pub record DispatchLine (s : State) (timeout : Option ℕ) (t : State) (said : L
   pub pending : t.pending ≡ pending_after (is_filled after.poll.poller.answers.items) s.fault s.pending
   pub text : said ≡ (waits_text after.poll.poller.waits.items ++ called) ++ answer_text answer
 
--- what a command does, and what it prints; nothing where the line can't be read
+-- what a command does, and what it prints; nothing if the line can't be read
 abbrev pub Carried : State → Option Command → Option (State × List ℕ) → Type 0
 Carried s None outcome = outcome ≡ None
 Carried s (Some Nothing) outcome = outcome ≡ Some (s, [])

@@ -1,4 +1,4 @@
--- What the sources of a script mean.
+-- The meaning of a script's sources.
 use Rattle.std.specs.Prelude.{◌≡◌, ℕ, List, Option}
 use Rattle.calloop_slots.specs.declared.error.Error.TheVariants.{OutOfMemory}
 use Rattle.calloop_slots.specs.declared.wheel.Instant.{Instant}

@@ -1,4 +1,4 @@
--- What is printed, a line each.
+-- The printed texts, one on each line.
 use Rattle.std.specs.Prelude.{◌≡◌, ℕ, ◌+◌, ◌-◌, ◌^◌, min, List, ◌++◌, Option, Some, None, codes}
 use Rattle.std.specs.Fmt.{decimal}
 
@@ -16,7 +16,7 @@ abbrev pub timeout_text : Option ℕ → List ℕ
 timeout_text None = codes "-"
 timeout_text (Some nanoseconds) = decimal nanoseconds
 
--- a wait was asked
+-- a wait was requested
 abbrev pub wait_text : Option ℕ → List ℕ
 wait_text asked = codes "wait " ++ timeout_text asked ++ codes "\n"
 
@@ -27,11 +27,11 @@ called_text name = codes "call " ++ name
 abbrev pub call_text : List ℕ → List ℕ
 call_text name = called_text name ++ codes "\n"
 
--- that of a timer, with its deadline in nanoseconds
+-- the callback of a timer was called, with its deadline in nanoseconds
 abbrev pub alarm_text : List ℕ → (deadline : ℕ) → List ℕ
 alarm_text name deadline = called_text name ++ codes " " ++ decimal deadline ++ codes "\n"
 
--- a command was refused with this error
+-- a command failed with this error
 abbrev pub refused_text : List ℕ → List ℕ
 refused_text word = codes "refused " ++ word ++ codes "\n"
 

@@ -1,4 +1,4 @@
--- What a run over the lines of a script writes.
+-- The output of a run over the lines of a script.
 use Rattle.std.specs.Prelude.{◌≡◌, ℕ, List, [], ◌∷◌, ◌++◌, Option, Some, None, ◌⊎◌}
 use Rattle.looptrace.specs.Texts.{error_text, next_number}
 
@@ -12,7 +12,7 @@ pub record Written : Type 0 where
 abbrev pub before : List ℕ → Written → Written
 before text later = record { out = text ++ later.out; err = later.err; status = later.status }
 
--- what one line may do: the state after it and its text, or nothing where the line can't be read
+-- what one line may do: the state after it and its text, or nothing if the line can't be read
 abbrev pub LineStep : Type 0 → Type 1
 LineStep S = S → List ℕ → Option (S × List ℕ) → Type 0
 

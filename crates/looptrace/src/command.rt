@@ -9,7 +9,7 @@ use std::alloc::{AllocError, Global};
 /// One line of a script.
 #[derive(Drop)]
 pub enum Command {
-    /// An empty line.
+    /// An empty line, which does nothing.
     Nothing,
     /// Makes a ping source of this name.
     Ping(SourceName),
@@ -229,8 +229,7 @@ fn parse_other(line: &[u8]) -> Option<Command>
     }
 }
 
-/// The command of a line without its line feed. `None` where the line can't be read.
-/// An `Err` says that memory ran out.
+/// The command of a line without its line feed. `None` if the line can't be read. An `Err` says that memory ran out.
 pub fn parse(alloc: Global, line: &[u8]) -> Result<Option<Command>, AllocError>
     ensures { IfOk result (λ command. command ≡ command_of line.now) }
 {

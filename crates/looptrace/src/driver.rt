@@ -16,16 +16,16 @@ use std::io;
 use std::io::{BufRead, Write};
 use std::sync::Wait;
 
-/// What carries out the lines of a script.
+/// Carries out the lines of a script.
 pub trait Runner {
     ghost use Rattle.std.specs.IoError.{error_kind};
     ghost use Rattle.std.specs.declared.io.ErrorKind.TheVariants.{OutOfMemory};
 
-    /// What one line may do: the state after it and its text, or nothing where the line can't be read.
+    /// What one line may do: the state after it and its text, or nothing if the line can't be read.
     ghost step: { Self → List ℕ → Option (Self × List ℕ) → Type 0 };
 
-    /// Carries out one line without its line feed, and appends what it prints to `text`.
-    /// False where the line can't be read. An `Err` says that memory ran out, and then nothing is known of `text`.
+    /// Carries out one line without its line feed, and appends what it prints to `text`. False if the line can't be read. An
+    /// `Err` says that memory ran out, and then nothing is known of `text`.
     fn line<Q: Wait + Log>(&mut self, rt: &Q, line: &[u8], text: &mut Vec<u8>) -> io::Result<bool>
         ensures read { IfOk result (λ read. MatchBool read
             ((said : List ℕ) × (text.new.items ≡ text.old.items ++ said)
@@ -37,7 +37,7 @@ pub trait Runner {
     ghost refuses: { (state : Self) (line : List ℕ) → longest < length line → step state line None };
 }
 
-// Has the runner carry out a line, if it isn't longer than any that can be read. False if it can't be read.
+// Has the runner carry out a line, if it isn't too long to be read. False if it can't be read.
 fn carry_out<Q: Wait + Log, L: Runner>(
     rt: &Q,
     runner: &mut L,
@@ -57,12 +57,11 @@ fn carry_out<Q: Wait + Log, L: Runner>(
     runner.line(rt, line, text)
 }
 
-/// Carries out the lines of the input, writes each line's text to the output, and answers the exit status:
-/// 0 at the end of the input, and 2 at the first line that can't be read, which the errors then name by its number.
-/// That number stays at 2^64 - 1 from there on. A line of more than 64 bytes can't be read, and at most one byte more of it
-/// is taken from the input.
+/// Carries out the lines of the input, writes each line's text to the output, and returns the exit status: 0 at the end of the
+/// input, and 2 at the first line that can't be read, which is then named by its number on the error output. That number stops
+/// rising at 2^64 - 1. A line of more than 64 bytes can't be read, and at most one byte more of it is taken from the input.
 ///
-/// An `Err` is a fault of reading or writing, or says that memory ran out. What was carried out and written before it stays.
+/// An `Err` is an error of reading or writing, or says that memory ran out. What was carried out and written before it stays.
 pub fn drive<Q: Wait + Log, L: Runner, R: BufRead, W: Write, E: Write>(
     rt: &Q,
     alloc: Global,

@@ -1,4 +1,4 @@
-//! What holds of the timers of every script.
+//! The law of the timers of every script.
 ghost use Rattle.std.specs.Prelude.{List, ℕ, Option, Some};
 ghost use Rattle.calloop_script.specs.declared.ScriptPoller.{ScriptPoller};
 ghost use Rattle.calloop_script.specs.ScriptPollers.{script_outside};
@@ -13,9 +13,9 @@ use calloop_laws::once_where_nothing_is_asked;
 use calloop_script::{ScriptClock, ScriptPoller};
 use std::sync::Wait;
 
-/// Whatever the script: each line makes such calls alone as insert a ping or a timer that was never registered, and exchanges no source.
-/// And over every run of a loop by such calls, from its beginning: no timer is called early, nor twice for one arming, and each call
-/// hands out the deadline of its arming.
+/// For every script: each line only makes calls that insert a ping or a timer that was never registered, and exchanges no source.
+/// And in every run of a loop by such calls, from its beginning: no timer is called early, nor twice for one arming, and each
+/// call hands out the deadline of its arming.
 pub fn timers_are_called_in_time<R: Wait + Clone + Drop>()
     ensures lines { (s t : State) (line said : List ℕ) → trace_step s line (Some (t, said))
         → Asks s.loop t.loop }

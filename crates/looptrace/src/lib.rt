@@ -1,4 +1,4 @@
-//! Runs a loop from a script: reads commands, a line each, and writes what the loop does.
+//! Runs a loop from a script: reads commands, one on each line, and writes what the loop does.
 #![tactic(auto)]
 
 pub mod command;

@@ -21,7 +21,7 @@ impl Model for SourceName {
 }
 
 impl SourceName {
-    /// A copy of these bytes. An `Err` says that memory ran out.
+    /// Copies these bytes. An `Err` says that memory ran out.
     pub fn new(alloc: Global, bytes: &[u8]) -> Result<SourceName, AllocError>
         ensures { IfOk result (λ name. name ≡ bytes.now) }
     {
@@ -30,7 +30,7 @@ impl SourceName {
         Ok(SourceName { bytes: copy })
     }
 
-    /// Its bytes.
+    /// The bytes of the name.
     pub fn as_slice(&self) -> &[u8]
         ensures { result.now ≡ self.now }
     {

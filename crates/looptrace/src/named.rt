@@ -11,7 +11,7 @@ use std::collections::BTreeMap;
 use std::marker::Model;
 use std::sync::Wait;
 
-/// What stands under a name: its ping, while that is open. A timer has none.
+/// The entry under a name: its ping, while that is open. A timer has none.
 #[derive(Drop)]
 struct Named<R: Wait + Drop> {
     ping: Option<Ping<R>>,
@@ -27,7 +27,7 @@ impl<R: Wait + Drop> Model for Named<R> {
 }
 
 impl<R: Wait + Drop> Named<R> {
-    // Rings its ping, where that is open.
+    // Rings the entry's ping, if that is open.
     fn ring(&self) -> Option<Receipt>
         ensures { option_map (λ receipt. receipt.name) result ≡ self.now }
     {
@@ -43,7 +43,7 @@ impl<R: Wait + Drop> Named<R> {
         self.ping.is_some()
     }
 
-    // Drops its ping.
+    // Drops the entry's ping.
     fn close(&mut self)
         ensures { self.new ≡ None }
     {
@@ -76,21 +76,21 @@ impl<R: Wait + Drop> Names<R> {
         }
     }
 
-    /// Whether some source has this name.
+    /// True if some source has this name.
     pub fn is_taken(&self, name: &SourceName) -> bool
         ensures { result ≡ is_taken name.now self.now }
     {
         self.by_name.contains_key(name)
     }
 
-    /// Rings the open ping of this name. Without a receipt there is none.
+    /// Rings the open ping of this name. `None` if there is none.
     pub fn ring(&self, name: &SourceName) -> Option<Receipt>
         ensures { option_map (λ receipt. receipt.name) result ≡ ping_named name.now self.now }
     {
         self.by_name.get(name)?.ring()
     }
 
-    /// Whether an open ping has this name.
+    /// True if an open ping has this name.
     pub fn has_open_ping(&self, name: &SourceName) -> bool
         ensures { result ≡ is_some (ping_named name.now self.now) }
     {
@@ -110,8 +110,8 @@ impl<R: Wait + Drop> Names<R> {
         }
     }
 
-    /// Keeps a name with its ping. Where the name has a source already, that one's ping is dropped. An `Err` is want of
-    /// memory, and nothing changes.
+    /// Keeps a name with its ping. If the name has a source already, that one's ping is dropped. An `Err` says that memory ran
+    /// out, and then nothing changes.
     pub fn insert(&mut self, name: SourceName, ping: Option<Ping<R>>) -> Result<(), AllocError>
         ensures ok { OnOk result (self.new ≡ with_source name ping self.old) }
         ensures err { OnErr result (self.new ≡ self.old) }

@@ -26,15 +26,15 @@ use std::io;
 use std::sync::Wait;
 use std::time::Duration;
 
-/// The answer that a wait is to take: what the clock showed at its last event, and its events.
+/// The answer for the next wait: what the clock showed at its last event, and its events.
 #[derive(Drop)]
 pub struct PendingAnswer {
     pub moment: Instant,
     pub events: ScriptEvents,
 }
 
-/// A loop over a scripted poller, with the sources that the script made, whether the next wait is to fail, and the
-/// pending answer.
+/// A loop over a scripted poller, with the sources that the script made, a flag that makes the next wait fail, and the pending
+/// answer.
 #[derive(Drop)]
 pub struct ScriptLoop<R: Wait + Drop> {
     rt: R,
@@ -45,7 +45,7 @@ pub struct ScriptLoop<R: Wait + Drop> {
     pending: Option<PendingAnswer>,
 }
 
-// The token of these numbers, where a token can hold them.
+// The token of these numbers, if a token can hold them.
 fn token_with(slot: u64, version: u64) -> Option<RegistrationToken>
     ensures { result ≡ token_with slot version }
 {
@@ -55,7 +55,7 @@ fn token_with(slot: u64, version: u64) -> Option<RegistrationToken>
     Some(RegistrationToken::new(slot as u32, version as u32))
 }
 
-// The name of the refusal.
+// The name of the error.
 fn word_of(error: &Error) -> &'static str
     ensures { result.now ≡ word_of error.now }
 {
@@ -73,7 +73,7 @@ fn word_of(error: &Error) -> &'static str
     }
 }
 
-// The nanoseconds of an asked wait, at most 2^64 - 1.
+// The nanoseconds of a requested wait, at most 2^64 - 1.
 fn nanos_in(asked: Option<Duration>) -> Option<u64>
     ensures { result ≡ nanos_in asked }
 {
@@ -99,7 +99,7 @@ fn append_waits(text: &mut Vec<u8>, waits: &[Option<Duration>]) -> Result<(), Al
     Ok(())
 }
 
-// Says the refusal, if it is one.
+// Prints the error, if there is one.
 fn append_answer(text: &mut Vec<u8>, answer: &calloop::Result<()>) -> Result<(), AllocError>
     ensures { OnOk result (text.new.items ≡ text.old.items ++ answer_text answer.now) }
 {
@@ -109,7 +109,7 @@ fn append_answer(text: &mut Vec<u8>, answer: &calloop::Result<()>) -> Result<(),
     }
 }
 
-// Says that there was nothing to remove, where there was nothing.
+// Prints that there was nothing to remove, if there was nothing.
 fn append_removed<R: Wait + Drop>(
     text: &mut Vec<u8>,
     removed: &Option<Source<R>>,
@@ -131,7 +131,7 @@ fn timeout_of(nanos: Option<u64>) -> Option<Duration>
     }
 }
 
-// Says what an insertion answered, and keeps its name with its ping where it wasn't refused.
+// Prints the answer of an insertion, and keeps its name with its ping if the insertion succeeded.
 fn keep<S: Drop, R: Wait + Drop>(
     sources: &mut Names<R>,
     name: SourceName,
@@ -151,7 +151,7 @@ fn keep<S: Drop, R: Wait + Drop>(
     }
 }
 
-// Whether no event more fits into the pending answer.
+// True if the pending answer has no room for another event.
 fn is_full(pending: &Option<PendingAnswer>) -> bool
     ensures { result
         ≡ nat_le events_per_wait (length (events_of (option_map pending_of pending.now))) }
@@ -162,7 +162,7 @@ fn is_full(pending: &Option<PendingAnswer>) -> bool
     }
 }
 
-// What the next wait gives: a fault, or else the pending answer.
+// The outcome of the next wait: a fault, or else the pending answer.
 fn next_answer(
     now: Instant,
     fault: bool,
@@ -187,7 +187,7 @@ fn next_answer(
     }))
 }
 
-// Forgets the asked waits, and scripts just what the next wait gives.
+// Forgets the requested waits, and scripts just the outcome of the next wait.
 fn make_ready(
     poller: &mut ScriptPoller,
     fault: bool,
@@ -208,8 +208,8 @@ fn make_ready(
     Ok(())
 }
 
-// Says the waits that were asked, and takes back what was scripted and given to none of them. False where there was nothing
-// to take back.
+// Prints the requested waits, and takes back what was scripted and given to none of them. False if there was nothing to take
+// back.
 fn take_back(poller: &mut ScriptPoller, text: &mut Vec<u8>) -> Result<bool, AllocError>
     ensures { IfOk result (λ stands.
         (text.new.items ≡ text.old.items ++ waits_text poller.old.waits.items)
@@ -220,14 +220,14 @@ fn take_back(poller: &mut ScriptPoller, text: &mut Vec<u8>) -> Result<bool, Allo
     Ok(poller.unscript().is_some())
 }
 
-// Whether the wait after a dispatch is to fail.
+// True if the wait after a dispatch is to fail.
 fn fault_after(stands: bool, fault: bool) -> bool
     ensures { result ≡ fault_after stands fault }
 {
     stands && fault
 }
 
-// What is pending after a dispatch. A fault only delays the answer.
+// The pending answer after a dispatch. A fault only delays it.
 fn pending_after(stands: bool, fault: bool, pending: Option<PendingAnswer>) -> Option<PendingAnswer>
     ensures { option_map pending_of result
         ≡ pending_after stands fault (option_map pending_of pending) }
@@ -236,7 +236,7 @@ fn pending_after(stands: bool, fault: bool, pending: Option<PendingAnswer>) -> O
 }
 
 impl<R: Wait + Clone + Drop> ScriptLoop<R> {
-    /// A loop with the clock at 0 and without sources. An `Err` says that memory ran out.
+    /// Makes a loop with the clock at 0 and without sources. An `Err` says that memory ran out.
     pub fn new(rt: &R, alloc: Global) -> io::Result<ScriptLoop<R>>
         ensures ok { IfOk result (λ made. IsStart (state_of made)) }
         ensures err { IfErr result (λ e. error_kind e ≡ OutOfMemory) }
@@ -302,7 +302,7 @@ impl<R: Wait + Clone + Drop> ScriptLoop<R> {
         Ok(true)
     }
 
-    // False where no open ping has this name.
+    // Rings the ping. False if no open ping has this name.
     fn ring(&mut self, name: &SourceName) -> bool
         ensures { MatchBool result
             (RingLine (state_of self.old) name.now (Some (state_of self.new, [])))
@@ -311,7 +311,7 @@ impl<R: Wait + Clone + Drop> ScriptLoop<R> {
         self.sources.ring(name).is_some()
     }
 
-    // False where no open ping has this name.
+    // Closes the ping. False if no open ping has this name.
     fn close(&mut self, name: &SourceName) -> bool
         ensures { MatchBool result
             (CloseLine (state_of self.old) name.now (Some (state_of self.new, [])))
@@ -338,7 +338,7 @@ impl<R: Wait + Clone + Drop> ScriptLoop<R> {
         Ok(())
     }
 
-    // False where no event more fits into the pending answer.
+    // Adds an event to the pending answer. False if that has no room for another one.
     fn answer(&mut self, key: u64, readiness: Readiness) -> io::Result<bool>
         ensures ok { IfOk result (λ read. MatchBool read
             (AnswerLine (state_of self.old) key readiness (Some (state_of self.new, [])))
@@ -395,7 +395,7 @@ impl<R: Wait + Clone + Drop> ScriptLoop<R> {
         Ok(())
     }
 
-    // How many warnings of the loop stand.
+    // The number of the loop's warnings.
     fn warnings(&mut self) -> usize
         ensures same { self.new ≡ self.old }
         ensures number { result ≡ length self.old.event_loop.warnings.errors.items }
@@ -403,7 +403,7 @@ impl<R: Wait + Clone + Drop> ScriptLoop<R> {
         self.event_loop.handle().warnings().len()
     }
 
-    // Logs the warnings of the loop, but so many of the first.
+    // Logs the warnings of the loop, except so many of the first.
     fn log_warnings<L: Log>(&mut self, log: &L, but: usize)
         ensures { self.new ≡ self.old }
     {

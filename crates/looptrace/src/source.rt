@@ -39,7 +39,7 @@ impl Said {
         }
     }
 
-    /// What was said, or nothing where memory ran out.
+    /// The text that was said, or nothing if memory ran out.
     pub fn text(&self) -> Option<&[u8]>
         ensures { option_copied result ≡ self.now }
     {

@@ -1,4 +1,4 @@
-//! What a run reads and writes.
+//! The reader and the writers of a run.
 ghost use Rattle.std.specs.Prelude.{◌≡◌, ◌≤◌, ◌<◌, ◌+◌, ℕ, [], ◌∷◌, length, true, false, Some, IfOk, IfSome, OnOk};
 ghost use Rattle.std.specs.Io.{StartsWith};
 ghost use Rattle.std.specs.Io.BufRead.{drop_through};
@@ -12,8 +12,8 @@ use calloop_poll::sys::faults::FaultCount;
 use std::io;
 use std::io::{BufRead, Write};
 
-/// A reader for the script, a writer for what the run says and one for its errors. It knows how many of their calls
-/// failed; that number takes no bytes, and contracts alone see it.
+/// A reader for the script, a writer for what the run says and one for its errors. A counter of their failed calls takes no
+/// bytes, and contracts alone see it.
 #[derive(Drop)]
 pub struct Streams<R, W, E> {
     pub input: R,
@@ -54,8 +54,8 @@ impl<R, W, E> Streams<R, W, E> {
 }
 
 impl<R: BufRead, W: Write, E: Write> Streams<R, W, E> {
-    /// Reads one line with its line feed into `line`, or, if it has more than 64 bytes, its first 65 alone: what is behind
-    /// these isn't read. False at the end of the input.
+    /// Reads one line with its line feed into `line`, or, if it has more than 64 bytes, only its first 65: the rest isn't read.
+    /// False at the end of the input.
     ///
     /// A read that a signal interrupts is tried again. After an `Err` a part of the line may have been read.
     pub fn read_line(&mut self, line: &mut Vec<u8>) -> io::Result<bool>
@@ -90,7 +90,7 @@ impl<R: BufRead, W: Write, E: Write> Streams<R, W, E> {
         self.note(answer)
     }
 
-    /// Names a line that can't be read, by its number, to the errors.
+    /// Writes the number of a line that can't be read to the error output.
     pub fn refuse(&mut self, number: u64) -> io::Result<()>
         ensures bytes { OnOk result (Appends (E.contents self.old.errors)
             (E.contents self.new.errors) (error_text number)) }

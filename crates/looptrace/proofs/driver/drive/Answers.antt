@@ -47,7 +47,7 @@ returns-then-not-branch-2-clause-run g c =
 pub returns-then-not-branch-2-clause-none : goal.returns-then-not-branch-2-clause-none
 returns-then-not-branch-2-clause-none g c = c.in_ok-refuse.ensures.faults ∙ c.in_ok-read_line.ensures.faults ∙ c.loop.invariant.2
 
--- any error has a cause where the number of failed calls grew by one
+-- any error has a cause if the number of failed calls grew by one
 grown : {A : Type 0} (r : Result A Error) (before after : ℕ) → after ≡ before + 1 → IfErr r (λ e. IsCause e before after)
 grown (Ok a) before after grew = tt
 grown (Err e) before after grew = inr grew

@@ -4,7 +4,7 @@ use Rattle.looptrace.specs.Says.{Tells}
 use Rattle.looptrace.specs.Texts.{alarm_text}
 use Rattle.looptrace.proofs.source.Said.alarm.Goals as goal
 
--- the text is said behind what was said before, where that is known
+-- the text is said behind what was said before, if that is known
 tells : (text before after : List ℕ) (lost : Bool) (v : Option (List ℕ)) → (if lost then None else Some before) ≡ v
     → after ≡ before ++ text → Tells text v (if lost then None else Some after)
 tells text before after true v seen is = inl refl
