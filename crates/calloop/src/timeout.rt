@@ -253,7 +253,7 @@ impl<C: Clock, R: Wait + Clone + Drop> TimeoutFuture<C, R> {
         Ok(future)
     }
 
-    /// Makes a future ready this long after the loop's present time. Past 2^64 - 1 nanoseconds it takes no slot, and stays pending.
+    /// Makes a future ready this long after the loop's current time. Past 2^64 - 1 nanoseconds it has no slot and stays pending.
     ///
     /// Fails as an insertion does. No timer stays then.
     pub fn from_duration<D, P, N>(

@@ -19,7 +19,7 @@ impl<D: EventDispatcher<P, C, R>, P: Poller, C: Clock, R: Wait + Drop> LoopHandl
     /// Adapts a socket: its `Async` polls it as a future, and the loop tells the `Async` what it finds. The adapter takes a slot,
     /// which no call of a handle names; no poller is called until a poll waits.
     ///
-    /// Fails as an insertion does, which leaves the loop the same way, and hands the socket back.
+    /// Fails as an insertion does, and leaves the loop as that does. Each failure hands the socket back.
     pub fn adapt_io<F, N>(
         &mut self,
         rt: &R,

@@ -19,9 +19,9 @@ use std::sync::Wait;
 /// Runs a loop from the script that the input holds, and returns the exit status: 0 at the end of the script, and 2 at the first
 /// line that can't be read. What the loop does goes to the output, and that line's number to the error output.
 ///
-/// The loop begins with the clock at 0, without sources, and with a poller that gives no events. Its warnings go to the log of `rt`.
-/// What is written is that of a run of the loop's machine in which no timer is called early, nor twice for one arming. An `Err` is
-/// an error of reading or writing, or says that memory ran out; what was written before it stays.
+/// The loop begins with the clock at 0, without sources, and with a poller that gives no events. Its warnings go to the log of
+/// `rt`. What is written is that of a run of the loop's machine in which no timer is called early, nor twice for one arming.
+/// An `Err` is an error of reading or writing, or says that memory ran out; what was written before it stays.
 pub fn trace<Q: Wait + Log + Clone + Drop, R: BufRead, W: Write, E: Write>(
     rt: &Q,
     alloc: Global,
