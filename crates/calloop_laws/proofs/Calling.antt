@@ -1,4 +1,4 @@
--- A cell that is at rest as a dispatch takes keys opens the turn of its event; and a ring that stands then stands until that turn, which calls back.
+-- A cell at rest when a dispatch takes keys opens the turn of its event; a ring pending then stays so until that turn calls back.
 use Rattle.std.proofs.Common.{◌≡◌, ◌≢◌, ℕ, ◌+◌, ◌-◌, ◌<◌, ◌≤◌, Bool, true, false, ◌&&◌, not, if◌then◌else◌, ◌⊎◌, inl, inr, Option, Some, None, Result, Ok, Err, List, [], ◌∷◌, ◌++◌, nat_eq, nat_lt, refl, sym, ◌∙◌, ap, subst, arith, append_assoc}
 use Rattle.std.proofs.lemmas.Bool.Decides.{nat_tests}
 use Rattle.calloop_slots.specs.declared.error.Error.{Error}
@@ -94,7 +94,7 @@ rest_opens k (First c) keyed quiet = own_opens k c.key c.draining keyed quiet
 rest_opens k (Second (First p)) keyed quiet = own_opens k p.now.cell.key p.now.cell.draining keyed quiet
 rest_opens k (Second (Second e)) keyed quiet = own_opens k e.now.key e.now.draining keyed quiet
 
--- The passes of a key become no more while nothing is taken.
+-- The passes of a key don't increase while nothing is taken.
 
 less-few : (j k : ℕ) (bag : Bag) → less_one j bag k ≤ bag k
 less-few j k bag = omega arith
@@ -133,7 +133,7 @@ passes-fall w (Unseen Sleep ∷ hs) k h quiet = passes-fall (after every_kind w 
 passes-fall w (Unseen Return ∷ hs) k h quiet = passes-fall (after every_kind w Return) hs k h.1 quiet
 passes-fall w (Noted note ∷ hs) k h quiet = absurd (noted-once note (notes_of hs) quiet)
 
--- where the pass is spent no turn is opened with it later
+-- once the pass is spent no turn is opened with it later
 spent_before : (w : Worlds) (hs later : History) (n k : ℕ) → IsHistory every_kind w (hs ++ Unseen (OpenTurn n k) ∷ later) → notes_of hs ≡ [] → w.passes k ≡ 0 → ⊥
 spent_before w hs later n k h quiet none =
     let parts = history-append every_kind w hs (Unseen (OpenTurn n k) ∷ later) h in
@@ -216,7 +216,7 @@ module _ (Also : every_kind.Cell → Type 0)
   stands w (Unseen Return ∷ hs) later n k h keeps quiet r few = stands (after every_kind w Return) hs later n k h.1 keeps quiet r few
   stands w (Noted note ∷ hs) later n k h keeps quiet r few = absurd (noted-once note (notes_of hs) quiet)
 
-  -- so it is where the cell is asked
+  -- so it is at the moment at which the cell is asked
   pub ready_there : (w : Worlds) (hs : History) (n k : ℕ) → IsHistory every_kind w hs → notes_of hs ≡ [] → IsReady k (w.cells n)
       → w.passes k ≤ 1 → (a : IsAsked hs n k) → IsReady k ((end_of every_kind w a.earlier).cells n)
   ready_there w hs n k h quiet r few a =
@@ -250,7 +250,7 @@ one-few : (b : Bool) → one b ≤ 1
 one-few true = omega arith
 one-few false = omega arith
 
--- the history behind a taking begins where its keys are taken
+-- the history after a taking begins at the taking of its keys
 behind_it : (w : Worlds) (before : List Note) (hs : History) (t : Taking before hs) → IsHistory every_kind w hs
     → IsHistory every_kind (world_behind_it every_kind w hs t) t.behind
 behind_it w before hs t h =
@@ -298,7 +298,7 @@ module _ {S E M T : Type 0} (tally : S → Tally) (Opens : OpenTurns S E M T) wh
         record { action = action; is = refl; opened = for_own (is_own (key_of token) (tally s).key) pass s t calls action steps h turns }
     turn_opened s t token pass calls (Err e) steps h turns = absurd h
 
--- the loop is answered what the source answers
+-- the loop gets the result that the source returned
 answered : {Cause : Type 0} (becomes : Cause → Error → Type 0) (inner : Result PostAction Cause) (action : PostAction) (answer : Result PostAction Error)
     → inner ≡ Ok action → Becomes becomes inner answer → answer ≡ Ok action
 answered {Cause} becomes inner action answer is told = subst (λ (r : Result PostAction Cause). Becomes becomes r answer) is told
@@ -373,7 +373,7 @@ counted_so k c before after counted opened rung =
 same_ping : (c d : Cell) → ◌≡◌ {A = every_kind.Cell} (First c) (First d) → c ≡ d
 same_ping c d h = (let e : c ≡ d = cc in e)
 
--- of a rung ping at rest where its turn is
+-- of a rung ping at rest, at its turn
 ready_counted : (k : ℕ) (c : every_kind.Cell) (before after : Tally) (core : CoreView) → IsReady IsRungPing rung_stays k c → c ≡ First core.cell
     → after ≡ tally_after_open_turn k core before → CountedBoth before after
 ready_counted k c before after core r there counted =
@@ -381,7 +381,7 @@ ready_counted k c before after core r there counted =
     let opened : opens k core.cell ≡ true = subst (λ (d : every_kind.Cell). every_kind.opens k d ≡ true) there (rest_opens k c r.keyed r.quiet) in
     counted_so k core before after counted opened (ap (λ (d : Cell). d.rung) (sym same) ∙ r.also.rung)
 
--- a rung ping is ready behind the taking
+-- a rung ping is ready after the taking
 ready_behind : (w : Worlds) (below n k : ℕ) (r : IsRung w n k) → r.ping.rung ≡ true
     → IsReady IsRungPing rung_stays k ((after every_kind w (Unpost below)).cells n)
 ready_behind w below n k r rung =

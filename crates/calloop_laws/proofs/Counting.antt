@@ -76,7 +76,7 @@ pub own-append : (f : Arming → ℕ) (xs ys : List TimerCall) → AllOwnCalls f
 own-append f [] ys h k = k
 own-append f (x ∷ xs) ys h k = (h.0, own-append f xs ys h.1 k)
 
--- what was gathered stays so
+-- what was gathered stays gathered
 pub own_more : (f g : Arming → ℕ) (cs : List TimerCall) → ((a : Arming) → f a ≤ g a) → AllOwnCalls f cs → AllOwnCalls g cs
 own_more f g [] more h = tt
 own_more f g (c ∷ cs) more h = let m = more h.0.0 in ((h.0.0, h.0.1, h.0.2, omega (arith, h.0.3)), own_more f g cs more h.1)
@@ -134,7 +134,7 @@ kept-by counter a (x ∷ xs) differs =
       | false ↦ λ _. ap (λ k. one (is_armed_by a) x + k) (kept-by counter a xs differs)
     ] refl
 
--- where no entry stands under its counter
+-- if no entry is under its counter
 pub unarmed : (a : Arming) (xs : List NumberedEntry) → has_counter a.counter (map entry_in xs) ≡ false → how_many (is_armed_by a) xs ≡ 0
 unarmed a [] h = refl
 unarmed a (x ∷ xs) h =
@@ -147,7 +147,7 @@ all_three true true r e = e
 all_three true false r e = cc
 all_three false q r e = cc
 
--- one that is due is gathered in time
+-- a due one is gathered in time
 timely_due : (a : Arming) (x : NumberedEntry) (now : ℕ) → is_due now x.entry ≡ true → one (is_armed_by a) x ≤ one (came_timely a) (from_deadline now x)
 timely_due a x now due =
     elim (is_same a (arming_of x)) as (λ b. is_same a (arming_of x) ≡ b → ◌≤◌ (if b then 1 else 0) (if b && nat_le a.deadline.nanos now then 1 else 0)) [

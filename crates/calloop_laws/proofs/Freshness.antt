@@ -1,4 +1,4 @@
--- What comes into the loop is such as calls, sources and idles insert and exchange.
+-- Calls, sources and idles insert and exchange only what satisfies the condition on what comes into the loop.
 use Rattle.std.proofs.Common.{◌≡◌, ℕ, List, [], ◌∷◌, ◌++◌, map, refl, sym, subst, Option, Result, Ok, Err, inl, inr}
 use Rattle.calloop_slots.specs.declared.error.Error.{Error}
 use Rattle.calloop_slots.specs.declared.error.InsertError.{InsertError}
@@ -119,7 +119,7 @@ module _ {D I P X : Type 0} (C : D → Type 0) (S : D → D → Type 0) (M : Mea
   removed_fresh w token InTurn answer cs h k = rw h.1 (tt, k)
   removed_fresh w token (Source d) answer cs h k = rw h.6 ((tt, (tt, (tt, (tt, tt)))), k)
 
-  -- a request, and its answer behind it
+  -- a request, and its answer after it
   told_fresh : (w : World D I P) (ds cs : List (Change D I P)) (step : HeldStep D I) → ((u : World D I P) → Asked' u → Asked' (world_after u (Holds step))) → cs ≡ ds ++ Holds step ∷ [] → Fresh w ds → Fresh w cs
   told_fresh w ds cs step f is h = rw is (on-append w ds (Holds step ∷ []) h (λ k. ((tt, tt), f (world_after_all w ds) k)))
 
@@ -225,11 +225,11 @@ module _ {D I P X : Type 0} (C : D → Type 0) (S : D → D → Type 0) (M : Mea
       (run_fresh calls answers csss (all_traced w css) w' n.1 h.1 (subst (λ (u : World D I P). Asked' u) (done-joined M runs O w css) g.1))
   run_fresh calls answers csss w w' n h k = absurd h
 
-  -- a run from where nothing has happened
+  -- a run from the state in which nothing has happened
   pub new_run_fresh : (calls : List (LoopCall D P X I)) (answers : List (LoopAnswer D P X I)) (csss : List (List (List (Change D I P)))) (w w' : World D I P) → IsNew w → AllCallsBring C S calls answers → Run M runs O calls answers csss w w' → AllBring C S (changes_of csss)
   new_run_fresh calls answers csss w w' new n h = run_fresh calls answers csss w w' n h (rw new.held tt)
 
--- Where whatever may be inserted, nobody has to be asked what is.
+-- If anything may be inserted, nothing has to be checked of what is.
 
 any_request : {D I : Type 0} (request : Request D I) → IsOnly (λ d. Unit {0}) request
 any_request (AskInsert d) = tt

@@ -1,4 +1,4 @@
--- Of a dispatch that answers `Ok`: what its watch notes, and that each event of its batch is handed out.
+-- Of a dispatch that returns `Ok`: what its watch notes, and that each event of its batch is handed out.
 use Rattle.std.specs.List.{Contains, slice_index_or}
 use Rattle.std.proofs.lemmas.List.Elements.{Contains-append_left, Contains-append_right}
 use Rattle.std.proofs.Common.{◌≡◌, ℕ, zero, suc, length, ◌⊎◌, ◌<◌, List, [], ◌∷◌, ◌++◌, refl, ap, sym, ◌∙◌, subst, arith, None, Option, Result, Ok, Err, Bool, inl, inr, true, false, if◌then◌else◌}
@@ -54,7 +54,7 @@ abbrev pub AllBlind : {D I P : Type 0} → List (Change D I P) → Type 0
 AllBlind [] = Unit {0}
 AllBlind (c ∷ cs) = Blind c × AllBlind cs
 
--- and that leave the batch as it is
+-- and that leave the batch unchanged
 abbrev pub Still : {D I P : Type 0} → Change D I P → Type 0
 Still (Gathered posted given now) = ⊥
 Still (Watching watch) = ⊥
@@ -67,7 +67,7 @@ abbrev pub AllStill : {D I P : Type 0} → List (Change D I P) → Type 0
 AllStill [] = Unit {0}
 AllStill (c ∷ cs) = Still c × AllStill cs
 
--- or put events behind it alone
+-- or only append events
 abbrev pub Joining : {D I P : Type 0} → Change D I P → Type 0
 Joining (Gathered posted given now) = ⊥
 Joining (Watching watch) = ⊥
@@ -228,7 +228,7 @@ joining_batch v (Cut slot ∷ cs) h e there = absurd h.0
 joining_batch v (Ended ∷ cs) h e there = joining_batch (after_change v Ended) cs h.1 e there
 
 module _ {D I P X : Type 0} (M : Meaning D P (Lent X (Asks D I))) (runs : Runs D I X) (O : Outside P) where
-  -- Each step but a cut leaves the batch as it is.
+  -- Each step but a cut leaves the batch unchanged.
 
   emptied_still : (token : RegistrationToken) (c : Content D) → AllStill (vacate {D = D} {I = I} {P = P} token c)
   emptied_still token Vacant = tt
@@ -271,7 +271,7 @@ module _ {D I P X : Type 0} (M : Meaning D P (Lent X (Asks D I))) (runs : Runs D
   own_or Vacant f g h = g h
   own_or (Source d) f g h = g h
 
-  -- a request, and its answer behind it
+  -- a request, and its answer after it
   told_still : (ds cs : List (Change D I P)) (step : HeldStep D I) → cs ≡ ds ++ Holds step ∷ [] → AllStill ds → AllStill cs
   told_still ds cs step is h = rw is (still-append ds (Holds step ∷ []) h (tt, tt))
 
@@ -318,7 +318,7 @@ module _ {D I P X : Type 0} (M : Meaning D P (Lent X (Asks D I))) (runs : Runs D
   from_blind v [] x cs b h = rw h.0 tt
   from_blind v (e ∷ es) x cs b h = cut_blind v e x cs b (content_at v.slots (registration_of e.token)) h
 
-  -- what the loop does behind the gathering
+  -- what the loop does after the gathering
   abbrev IsBehind : Doing D X → Type 0
   IsBehind (Beginning timeout x) = ⊥
   IsBehind (Settling timeout later x) = ⊥
@@ -327,7 +327,7 @@ module _ {D I P X : Type 0} (M : Meaning D P (Lent X (Asks D I))) (runs : Runs D
   IsBehind (Gathering now given x) = ⊥
   IsBehind a = Unit {0}
 
-  -- where the batch was cut, it is empty
+  -- once the batch was cut, it is empty
   abbrev IsEmptied : View D I P → Doing D X → Type 0
   IsEmptied v (Idling x) = v.poll.batch ≡ []
   IsEmptied v (RunningIdles x) = v.poll.batch ≡ []
@@ -343,7 +343,7 @@ module _ {D I P X : Type 0} (M : Meaning D P (Lent X (Asks D I))) (runs : Runs D
     next : Doing D X
     cut : CutTo M e (content_at v.slots (registration_of e.token)) v x cs next
 
-  -- a step behind the gathering
+  -- a step after the gathering
   record GoesOn (v : View D I P) (cs : List (Change D I P)) (b : Doing D X) : Type 0 where
     blind : AllBlind cs
     late : IsBehind b
@@ -443,7 +443,7 @@ module _ {D I P X : Type 0} (M : Meaning D P (Lent X (Asks D I))) (runs : Runs D
         cut = f.cut;
       }
 
-  -- each event that waits behind the gathering is handed out
+  -- each event that waits after the gathering is handed out
   all_handed : (v : View D I P) (a : Doing D X) (x' : X) (css : List (List (Change D I P))) → IsBehind a → IsEmptied v a → Steps M runs O v a css (Leaving (Ok tt) x') → (e : Pending) → Contains v.poll.batch e → IsHandedOut M v css e
   all_handed v a x' [] late none h e there =
       let empty : v.poll.batch ≡ [] = subst (λ (b : Doing D X). IsEmptied v b) (sym h) none in

@@ -143,7 +143,7 @@ module _ (K : Kind) where
   tokens-end w (Noted (Unposted room keys) ∷ hs) h t = tokens-end (after K w (Unpost (bound room w.board))) hs h.1 (tokens-unpost (bound room w.board) w.board t)
   tokens-end w (Noted (Marked marks) ∷ hs) h t = tokens-end w hs h.1 t
 
-  -- where none is opened there are no more places
+  -- if none is opened there are no more places
   pub no_more : (w : WakeWorld K.Cell) (hs : List (Happening K.Own)) → OpensNone hs → length (end_of K w hs).board ≤ length w.board
   no_more w [] o = omega arith
   no_more w (Unseen (At n s) ∷ hs) o = no_more (after K w (At n s)) hs o
@@ -164,7 +164,7 @@ module _ (K : Kind) where
   no_more w (Noted (Unposted room keys) ∷ hs) o = omega (arith, no_more (after K w (Unpost (bound room w.board))) hs o, unpost-many (bound room w.board) w.board)
   no_more w (Noted (Marked marks) ∷ hs) o = no_more w hs o
 
-  -- what is posted at the end was so at the beginning, or was posted since
+  -- a key that is posted at the end was posted at the beginning, or since
   made_later : (s t : WakeStep K.Own) (h : Happening K.Own) (hs : List (Happening K.Own)) → IsMadeIn s hs → IsMadeIn s (h ∷ hs)
   made_later s t h hs m = (h ∷ m.0, m.1, ap (λ l. h ∷ l) m.2)
 
@@ -180,7 +180,7 @@ module _ (K : Kind) where
   posted-first : (j k : ℕ) (hs : List (Happening K.Own)) → nat_eq k j ≡ true → IsMadeIn (Post k) (Unseen (Post j) ∷ hs)
   posted-first j k hs e = ([], hs, (let same : k ≡ j = grind (arith, nat_tests) in ap (λ (i : ℕ). Unseen (Post i) ∷ hs) (sym same)))
 
-  -- as behind these steps, which post nothing of this key
+  -- as after these steps, which don't post this key
   as_before : (k : ℕ) (w v : WakeWorld K.Cell) (x : Happening K.Own) (hs : List (Happening K.Own)) → (is_marked k v.board ≡ true → is_marked k w.board ≡ true)
       → (is_marked k v.board ≡ true) ⊎ IsMadeIn (Post k) hs → (is_marked k w.board ≡ true) ⊎ IsMadeIn (Post k) (x ∷ hs)
   as_before k w v x hs same (inl h) = inl (same h)
@@ -218,7 +218,7 @@ module _ (K : Kind) where
   marks_come k w (Noted (Unposted room keys) ∷ hs) h = as_before k w (after K w (Unpost (bound room w.board))) _ hs (unposted-marked k (bound room w.board) w.board) (marks_come k (after K w (Unpost (bound room w.board))) hs h)
   marks_come k w (Noted (Marked marks) ∷ hs) h = as_before k w w _ hs (λ m. m) (marks_come k w hs h)
 
--- Where a note stands.
+-- The position of a note.
 
 pub record NoteFound {O : Type 0} (hs : List (Happening O)) (note : Note) (front rest : List Note) : Type 0 where
   pub ahead : List (Happening O)
@@ -243,7 +243,7 @@ note_found {O} (Noted m ∷ hs) note (n ∷ front) rest h =
     let f = note_found hs note front rest b in
     record { ahead = Noted m ∷ f.ahead; behind = f.behind; is = ap (λ (l : List (Happening O)). Noted m ∷ l) f.is; notes_ahead = ap (λ (l : List Note). m ∷ l) f.notes_ahead ∙ ap (λ (x : Note). x ∷ front) a; notes_behind = f.notes_behind }
 
--- where a history is cut behind its first notes
+-- a history that is cut after its first notes
 pub record NotesFound {O : Type 0} (hs : List (Happening O)) (front rest : List Note) : Type 0 where
   pub ahead : List (Happening O)
   pub behind : List (Happening O)
@@ -263,7 +263,7 @@ notes_found {O} (Noted m ∷ hs) (n ∷ front) rest h =
     let f = notes_found hs front rest b in
     record { ahead = Noted m ∷ f.ahead; behind = f.behind; is = ap (λ (l : List (Happening O)). Noted m ∷ l) f.is; notes_ahead = ap (λ (l : List Note). m ∷ l) f.notes_ahead ∙ ap (λ (x : Note). x ∷ front) a; notes_behind = f.notes_behind }
 
--- the keys of the last taking in these notes, or these where none is
+-- the keys of the last taking in these notes, or these if there is none
 abbrev pub keys_from : List ℕ → List Note → List ℕ
 keys_from ks [] = ks
 keys_from ks (Counted number ∷ ns) = keys_from ks ns
@@ -287,7 +287,7 @@ append_assoc : {A : Type 0} (a b c : List A) → (a ++ b) ++ c ≡ a ++ (b ++ c)
 append_assoc [] b c = refl
 append_assoc (x ∷ xs) b c = rw (append_assoc xs b c) refl
 
--- the keys of a history that ends behind a taking
+-- the keys of a history that ends after a taking
 pub keys_taken : {O : Type 0} (ahead between behind : List (Happening O)) (places : ℕ) (keys : List ℕ) → notes_of behind ≡ []
     → keys_from [] (notes_of (ahead ++ Noted (Counted places) ∷ (between ++ Noted (Unposted places keys) ∷ behind))) ≡ keys
 keys_taken ahead between behind places keys over =

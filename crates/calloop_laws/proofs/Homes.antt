@@ -1,4 +1,4 @@
--- Each source that stands in a slot is at home there.
+-- Each source in a slot is at home there.
 use Rattle.std.proofs.Common.{◌≡◌, ◌⊎◌, inl, inr, ℕ, zero, suc, ◌%◌, List, [], ◌∷◌, ◌++◌, map, Bool, true, false, if◌then◌else◌, refl, ap, sym, ◌∙◌, subst, arith, Some, Option, Result, Ok, Err, slice_get}
 use Rattle.std.proofs.lemmas.Bool.Decides.{nat_tests}
 use Rattle.std.proofs.lemmas.Option.{slice_get-map}
@@ -99,7 +99,7 @@ none_there [] none i v d h = (let e = h.1 in cc)
 none_there (x ∷ xs) none i v d h = cc
 
 module _ {D I P X : Type 0} (M : Meaning D P (Lent X (Asks D I))) (runs : Runs D I X) (O : Outside P) (law : KeepsHome M) where
-  -- each source that stands in a slot is at home there
+  -- each source in a slot is at home there
   abbrev Homely : List (Slot D) → Type 0
   Homely slots = (i v : ℕ) (d : D) → Stands slots i v d → IsAtHome M (record { slot = i; version = v }) d
 
@@ -227,7 +227,7 @@ module _ {D I P X : Type 0} (M : Meaning D P (Lent X (Asks D I))) (runs : Runs D
   removed_homely v token answer cs InTurn h k = rw h.1 k
   removed_homely v token answer cs (Source d) h k = rw h.6 (homely_without v.slots token.slot Vacant (λ d e. cc) k)
 
-  -- what stays of slots and sources where only what both hold changes
+  -- what stays of slots and sources if only what both hold changes
   told_homely : (v : View D I P) (ds cs : List (Change D I P)) (step : HeldStep D I) → cs ≡ ds ++ Holds step ∷ [] → Homely (all_viewed v ds).slots → Homely (all_viewed v cs).slots
   told_homely v ds cs step is h = rw (is, viewed-append v ds (Holds step ∷ [])) h
 

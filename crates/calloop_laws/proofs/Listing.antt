@@ -1,4 +1,4 @@
--- The registrations that are told of waits: each stands once in the list, and names what isn't vacant.
+-- The registrations that are told of waits: each is in the list once, and names what isn't vacant.
 use Rattle.std.proofs.Common.{◌≡◌, ◌≢◌, ◌⊎◌, inl, inr, ℕ, zero, suc, List, [], ◌∷◌, ◌++◌, filter, not, Bool, true, false, ◌||◌, nat_eq, if◌then◌else◌, refl, ap, sym, ◌∙◌, subst, arith, Some, Option, Result, Ok, Err, slice_get}
 use Rattle.std.proofs.lemmas.Bool.Decides.{nat_tests}
 use Rattle.std.specs.declared.io.Error.{Error as Cause}

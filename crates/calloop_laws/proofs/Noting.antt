@@ -1,5 +1,5 @@
--- What the ledger says is kept by every step of a source, by each gathering and by each cut, as long as a source makes
--- steps of counters that it holds alone.
+-- Every step of a source, each gathering and each cut keep what the ledger says, as long as a source makes steps only of
+-- counters that it alone holds.
 use Rattle.std.proofs.Common.{◌≡◌, ◌≢◌, ◌⊎◌, inl, inr, ℕ, ◌+◌, ◌<◌, ◌≤◌, List, [], ◌∷◌, ◌++◌, map, filter, refl, ap, sym, ◌∙◌, arith, Some, None, true, false, if◌then◌else◌, nat_eq}
 use Rattle.std.proofs.lemmas.Bool.Decides.{nat_tests}
 use Rattle.calloop_slots.specs.declared.token.Token.{Token}
@@ -337,7 +337,7 @@ module _ {P : Type 0} (O : Outside P) where
         others = λ o apart good. (good, λ c. elim (apart c) [ inl e ↦ inl (within_free (h' c) (h c) (within c) e) | inr e ↦ inr e ]);
       }
 
-  -- the one after the other
+  -- one after another
   done_then : (l m n : Ledger) (v u w : PollView P) (h j k : ℕ → Holding) → IsDone l v h m u j → (IsNoted m u → IsGood m u.deadlines.next j → IsDone m u j n w k) → IsDone l v h n w k
   done_then l m n v u w h j k first later =
       let rest = later first.noted first.good in

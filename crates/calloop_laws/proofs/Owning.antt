@@ -1,4 +1,4 @@
--- Over every run, each counter is held by one source at most, and what the ledger says is kept.
+-- Over every run, each counter is held by at most one source, and what the ledger says is kept.
 use Rattle.std.proofs.Common.{Bool, ◌≡◌, ◌≢◌, ◌⊎◌, inl, inr, ℕ, zero, suc, ◌%◌, List, [], ◌∷◌, ◌++◌, map, refl, ap, sym, ◌∙◌, subst, arith, Some, None, Option, Result, Ok, Err, true, false, if◌then◌else◌, nat_eq, nat_lt, slice_get}
 use Rattle.std.proofs.lemmas.Bool.Decides.{nat_tests}
 use Rattle.calloop_slots.specs.Widths.{versions}
@@ -48,7 +48,7 @@ use Rattle.calloop_loop.proofs.Seen.{seen-all_done, done-append}
 use Rattle.calloop_laws.proofs.Gone.{fit_first}
 use Rattle.calloop_laws.proofs.Noting.{IsNoted, IsGood, IsApart, apart_sym, noted_alike, noted_gathered, noted_appended, noted_cut, good_gathered, good_appended, good_cut, cut_deadlines, done_steps}
 
--- this source stands in this slot
+-- this source is in this slot
 abbrev pub At : {D : Type 0} → List (Registration D) → ℕ → D → Type 0
 At {D} slots i d = (r : Registration D) × (slice_get slots i ≡ Some r) × (r.content ≡ Source d)
 
@@ -444,7 +444,7 @@ module _ {D I P X : Type 0} (M : Meaning D P (Lent X (Asks D I))) (runs : Runs D
   fresh_rest [] ds h = h
   fresh_rest (c ∷ cs) ds h = fresh_rest cs ds h.1
 
-  -- the changes of a request, and its answer behind them
+  -- the changes of a request, and its answer after them
   told_owned_by : (w : World D I P) (rest : List D) (ds cs : List (Change D I P)) (answer : Answer D) → cs ≡ ds ++ Holds (Told answer) ∷ [] → AllFresh M cs → AllFit O (visible w) cs
       → (AllFresh M ds → AllFit O (visible w) ds → IsOwned M (world_after_all w ds) rest) → IsOwned M (world_after_all w cs) rest
   told_owned_by w rest ds cs answer is fresh fit f =

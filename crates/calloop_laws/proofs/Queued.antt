@@ -93,7 +93,7 @@ step_left x xs n m s w false is h =
     let d : n ≢ m = λ e. (let y : nat_eq m n ≡ true = rw e (grind (arith, nat_tests)) in (let f : ◌≡◌ {A = Bool} true false = sym y ∙ is in cc)) in
     All refl (with_cell_cases (IsQueued (x ∷ xs)) m n (every_kind.after s (w.cells m)) w.cells (λ same. absurd (d same)) (λ other. h))
 
--- a change that leaves an executor's queue as it is, of this cell or another one
+-- a change that leaves an executor's queue unchanged, of this cell or another one
 kept : (left : List ℕ) (n m : ℕ) (f : every_kind.Cell → every_kind.Cell) (w : Worlds)
     → ((e : ExecutorPast) (more : List ℕ) → e.now.queue ≡ left ++ more → IsQueued left (f (Second (Second e)))) → IsQueued left (w.cells n)
     → IsQueued left (with_cell m (f (w.cells m)) w.cells n)
@@ -115,7 +115,7 @@ turned left false e more q = record { executor = e; is = refl; more = more; queu
 same_executor : (p q : ExecutorPast) → ◌≡◌ {A = every_kind.Cell} (Second (Second p)) (Second (Second q)) → p ≡ q
 same_executor p q h = (let e : p ≡ q = cc in e)
 
--- where a pop finds none, nothing was left
+-- if a pop finds none, nothing was left
 none_left : (x : ℕ) (xs : List ℕ) (c : every_kind.Cell) (q : ExecutorPast) (finished : Bool) → IsQueued (x ∷ xs) c → c ≡ Second (Second q)
     → (after_poll finished q.now).queue ≡ [] → ⊥
 none_left x xs c q finished h is none =

@@ -59,7 +59,7 @@ not_empty e es h = (let f : ◌≡◌ {A = List Pending} [] (e ∷ es) = h in cc
 pub none_less : 0 < 0 → ⊥
 none_less h = omega arith
 
--- where the key of the ring is taken
+-- if the key of the ring is taken
 abbrev pub taking_of_a_ring : (name : Book) → Taking (with_a_source name).poll.watch.notes history_of_a_ring
 taking_of_a_ring name =
     record {
@@ -73,7 +73,7 @@ taking_of_a_ring name =
       over = refl;
     }
 
--- where nothing is taken
+-- if nothing is taken
 abbrev pub taking_of_nothing : (name : Book) → Taking (with_a_source name).poll.watch.notes history_of_nothing
 taking_of_nothing name =
     record {
@@ -87,7 +87,7 @@ taking_of_nothing name =
       over = refl;
     }
 
--- or with a step behind that
+-- or with a step after that
 abbrev pub taking_before_a_clearing : (name : Book) → Taking (with_a_source name).poll.watch.notes history_with_a_clearing
 taking_before_a_clearing name =
     record {

@@ -1,4 +1,4 @@
--- Each event that is cut goes right.
+-- Each event that is cut goes to the right source, or rightly to none.
 use Rattle.std.proofs.Common.{◌≡◌, ℕ, ◌%◌, List, [], ◌∷◌, ◌++◌, map, refl, ap, sym, ◌∙◌, subst, arith, Some, None, Option, Result, Ok, Err, inl, inr, true, false, if◌then◌else◌, nat_eq, slice_get}
 use Rattle.std.specs.Option.{option_map}
 use Rattle.std.proofs.lemmas.Bool.Decides.{nat_tests}
@@ -123,7 +123,7 @@ module _ {D I P X : Type 0} (M : Meaning D P (Lent X (Asks D I))) (runs : Runs D
   own_or Vacant f g h = g h
   own_or (Source d) f g h = g h
 
-  -- a request, and its answer behind it
+  -- a request, and its answer after it
   told_right : (w : World D I P) (ds cs : List (Change D I P)) (step : HeldStep D I) → cs ≡ ds ++ Holds step ∷ [] → AllRight w ds → AllRight w cs
   told_right w ds cs step is h = rw is (right-append w ds (Holds step ∷ []) h (tt, tt))
 

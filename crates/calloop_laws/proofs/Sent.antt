@@ -1,4 +1,4 @@
--- What was put into a channel stays put, and is handed out where the queue is empty.
+-- What was put into a channel stays put, and is handed out by the time the queue is empty.
 use Rattle.std.proofs.Common.{◌≡◌, ℕ, Bool, true, false, if◌then◌else◌, List, [], ◌∷◌, ◌++◌, refl, sym, ◌∙◌, ap, subst, append_assoc}
 use Rattle.std.proofs.lemmas.List.{append-nil}
 use Rattle.calloop_wake.specs.Boards.{bound}

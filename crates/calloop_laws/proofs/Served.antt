@@ -1,4 +1,4 @@
--- A dispatch that answers `Ok` has cut all that it gathered.
+-- A dispatch that returns `Ok` has cut all that it gathered.
 use Rattle.std.proofs.lemmas.List.Elements.{Contains-append_left, Contains-append_right}
 use Rattle.std.specs.List.{Contains, slice_index_or}
 use Rattle.std.proofs.Common.{◌≡◌, ℕ, filter, not, cond, nat_eq, suc, zero, length, ◌⊎◌, ◌+◌, ◌<◌, ◌≤◌, List, [], ◌∷◌, ◌++◌, refl, ap, sym, ◌∙◌, subst, arith, None, Option, Result, Ok, Err, inl, inr, true, false, if◌then◌else◌, nat_le}
@@ -55,7 +55,7 @@ abbrev pub AllTame : {D I P : Type 0} → List (Change D I P) → Type 0
 AllTame [] = Unit {0}
 AllTame (c ∷ cs) = Tame c × AllTame cs
 
--- such as may begin one
+-- those that may begin one
 abbrev pub Loose : {D I P : Type 0} → Change D I P → Type 0
 Loose (Gathered posted given now) = ⊥
 Loose (Appended event) = ⊥
@@ -65,7 +65,7 @@ abbrev pub AllLoose : {D I P : Type 0} → List (Change D I P) → Type 0
 AllLoose [] = Unit {0}
 AllLoose (c ∷ cs) = Loose c × AllLoose cs
 
--- such as neither gather, nor cut, nor begin one
+-- those that neither gather, nor cut, nor begin one
 abbrev pub Plain : {D I P : Type 0} → Change D I P → Type 0
 Plain (Gathered posted given now) = ⊥
 Plain (Cut slot) = ⊥
@@ -76,7 +76,7 @@ abbrev pub AllPlain : {D I P : Type 0} → List (Change D I P) → Type 0
 AllPlain [] = Unit {0}
 AllPlain (c ∷ cs) = Plain c × AllPlain cs
 
--- and such as begin none
+-- and those that begin none
 abbrev pub Quiet : {D I P : Type 0} → Change D I P → Type 0
 Quiet (Holds step) = NoRound step
 Quiet c = Unit {0}
@@ -244,7 +244,7 @@ all_cut v (Cut slot ∷ cs) h =
     ∙ batch_cut v.poll v.poll.batch refl
 all_cut v (Ended ∷ cs) h = all_cut (after_change v Ended) cs h.1
 
--- an empty batch stays so
+-- an empty batch stays empty
 stays_empty : {D I P : Type 0} (v : View D I P) (cs : List (Change D I P)) → AllLoose cs → v.poll.batch ≡ [] → (all_viewed v cs).poll.batch ≡ []
 stays_empty v cs h is = no_front (events_cut v cs) (all_viewed v cs).poll.batch (all_cut v cs h ∙ is)
 
@@ -421,7 +421,7 @@ module _ {D I P X : Type 0} (M : Meaning D P (Lent X (Asks D I))) (runs : Runs D
   ordered_all v (Cut slot ∷ cs) f h = ordered_all (after_change v (Cut slot)) cs f.1 (subst (λ (d : Deadlines). IsOrdered d) (sym (deadlines_cut v.poll v.poll.batch)) h)
   ordered_all v (Ended ∷ cs) f h = ordered_all (after_change v Ended) cs f.1 h
 
-  -- Each step behind the gathering puts nothing into the batch.
+  -- Each step after the gathering puts nothing into the batch.
 
   cut_tame : (v : View D I P) (e : Pending) (x : X) (cs : List (Change D I P)) (b : Doing D X) (c : Content D) → CutTo M e c v x cs b → AllTame cs
   cut_tame v e x cs b Vacant h = rw h.0 (tt, (tt, tt))
@@ -473,7 +473,7 @@ module _ {D I P X : Type 0} (M : Meaning D P (Lent X (Asks D I))) (runs : Runs D
   own_or Vacant f g h = g h
   own_or (Source d) f g h = g h
 
-  -- a request, and its answer behind it
+  -- a request, and its answer after it
   told_tame : (ds cs : List (Change D I P)) (step : HeldStep D I) → NoRound step → cs ≡ ds ++ Holds step ∷ [] → AllTame ds → AllTame cs
   told_tame ds cs step q is h = rw is (tame-append ds (Holds step ∷ []) h (q, tt))
 
@@ -504,7 +504,7 @@ module _ {D I P X : Type 0} (M : Meaning D P (Lent X (Asks D I))) (runs : Runs D
   run_from_tame v [] x cs b h = rw h.0 tt
   run_from_tame v (i ∷ is) x cs b h = rw h.3 (tt, (tt, tt))
 
-  -- what the loop does behind the gathering, and before it, or where that failed
+  -- what the loop does after the gathering, and before it, or if that failed
   abbrev IsLate : Doing D X → Type 0
   IsLate (Beginning timeout x) = ⊥
   IsLate (Settling timeout later x) = ⊥
@@ -522,7 +522,7 @@ module _ {D I P X : Type 0} (M : Meaning D P (Lent X (Asks D I))) (runs : Runs D
   IsEarly (Leaving (Err e) x) = Unit {0}
   IsEarly a = ⊥
 
-  -- what is so where the batch was cut
+  -- what holds once the batch was cut
   abbrev Stands : View D I P → Doing D X → Type 0
   Stands v (Idling x) = v.poll.batch ≡ []
   Stands v (RunningIdles x) = v.poll.batch ≡ []
@@ -530,7 +530,7 @@ module _ {D I P X : Type 0} (M : Meaning D P (Lent X (Asks D I))) (runs : Runs D
   Stands v (Leaving (Ok u) x) = (v.poll.batch ≡ []) × (v.held.asks.running ≡ [])
   Stands v a = Unit {0}
 
-  -- a step behind the gathering
+  -- a step after the gathering
   record GoesOn (v : View D I P) (cs : List (Change D I P)) (b : Doing D X) : Type 0 where
     tame : AllLoose cs
     late : IsLate b
@@ -598,7 +598,7 @@ module _ {D I P X : Type 0} (M : Meaning D P (Lent X (Asks D I))) (runs : Runs D
       record { tame = t; late = k.0; stands = k.1 }
   goes_on v (Leaving answer x) b cs late s h = absurd h
 
-  -- all steps behind the gathering
+  -- all steps after the gathering
   all_go_on : (v : View D I P) (a b : Doing D X) (css : List (List (Change D I P))) → IsLate a → Stands v a → Steps M runs O v a css b → AllLoose (flatten css) × Stands (all_viewed v (flatten css)) b
   all_go_on v a b [] late s h = (tt, rw h s)
   all_go_on v a b (cs ∷ css) late s h =

@@ -1,4 +1,4 @@
--- Each ticket stands at most once, and its answer is handed out at most once.
+-- Each ticket is at most at one place, and its answer is handed out at most once.
 use Rattle.std.proofs.Common.{◌≡◌, ℕ, ◌+◌, ◌≤◌, List, [], ◌∷◌, ◌++◌, refl, arith, Some, None, Option, true, false, if◌then◌else◌, nat_eq, nat_lt}
 use Rattle.std.proofs.lemmas.Bool.Decides.{nat_tests}
 use Rattle.calloop_sources.specs.sources.Deeds.{Lent}

@@ -201,7 +201,7 @@ module _ {D I P X : Type 0} (M : Meaning D P (Lent X (Asks D I))) (runs : Runs D
             (history-append every_kind (start (λ n. new_cell (born n))) ahead behind (subst (λ (l : List (Happening every_kind.Own)). IsHistory every_kind (start (λ n. new_cell (born n))) l) is h)).0 notes;
       }
 
-  -- what is so of a dispatch is so where the call was one
+  -- what holds of a dispatch holds if the call was one
   if_served : (T : Type 0) (v : View D I P) (call : LoopCall D P X I) (answer : LoopAnswer D P X I) (css : List (List (Change D I P))) → Case M runs O call answer v css → (IsNotedDispatch M v css → T) → IfServed answer T
   if_served T v (Dispatch timeout x) (Dispatched (Ok u) x') css h f = f (noted M runs O _ x x' v css h)
   if_served T v call (Dispatched (Ok u) x') css h f = absurd h

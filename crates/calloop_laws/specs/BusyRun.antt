@@ -1,6 +1,6 @@
--- A run of a socket whose first turn fails: a source enters a socket as it is inserted. A dispatch gathers two events of it; its turn for the
--- first asks for its own registration anew, which is carried out, and fails, so that the second event is left over. The next
--- dispatch cuts that first, without a wait.
+-- A run of a socket whose first turn fails: a source enters a socket when it is inserted. A dispatch gathers two events of it;
+-- its turn for the first requests its own registration anew, which is carried out, and fails, so that the second event is left
+-- over. The next dispatch cuts that first, without a wait.
 use Rattle.std.specs.Prelude.{◌≡◌, ℕ, false, true, List, [], ◌∷◌, Some, None, Ok, Err}
 use Rattle.logbook.specs.Pages.{Book}
 use Rattle.calloop_slots.specs.declared.error.Error.TheVariants.{OutOfMemory}
@@ -34,7 +34,7 @@ use Rattle.calloop_laws.specs.WrongRuns.{SmallWorld, SmallChange, idle_world}
 abbrev pub anything : Meaning (Unit {0}) (Unit {0}) (Lent (Unit {0}) (Asks (Unit {0}) (Unit {0})))
 anything = record (still (λ s v deed t. Unit {0})) { does = λ s v deed steps t. Unit {0} }
 
--- a poller that may give any events, and refuses nothing, and a clock that may show any moment
+-- a poller that may return any events, and never fails, and a clock that may show any moment
 abbrev pub giving_poller : Outside (Unit {0})
 giving_poller =
     record {
@@ -69,7 +69,7 @@ two_found = (key_of first_token, ready_to_read) ∷ (key_of first_token, ready_t
 abbrev pub two_found_but_one : List (ℕ × Readiness)
 two_found_but_one = (key_of first_token, ready_to_read) ∷ []
 
--- a step of the dispatch a list
+-- the steps of the dispatch, a list for each
 abbrev pub failing_dispatch : Book → List (List SmallChange)
 failing_dispatch name =
     (Counting 0 ∷ Holds Cleared ∷ Watching (with_note (Marked []) (record { name = name; notes = Counted 0 ∷ [] })) ∷ [])

@@ -1,5 +1,5 @@
--- From what is posted to the turn that it leads to: the source of a cell that is posted as a dispatch takes keys has a turn in that dispatch which
--- the cell opens; and of a ping that is rung then the callback is called. In calloop a descriptor stays readable until `process_events` reads it.
+-- From a posted key to its turn: if a cell is posted when a dispatch takes keys, its source has a turn in that dispatch, which
+-- the cell opens; a rung ping's callback is called. In calloop a descriptor stays readable until `process_events` reads it.
 use Rattle.std.specs.Prelude.{◌≡◌, ◌≢◌, ℕ, ◌+◌, true, false, List, [], ◌∷◌, ◌++◌, Some, Result, Ok}
 use Rattle.calloop_slots.specs.declared.error.Error.{Error}
 use Rattle.calloop_slots.specs.declared.list.Content.TheVariants.{Source}
@@ -41,26 +41,26 @@ pub record IsAsked (hs : List (Happening every_kind.Own)) (cell key : ℕ) : Typ
   pub is : hs ≡ earlier ++ Unseen (OpenTurn cell key) ∷ later
   pub same_key : KeepsKey cell earlier
 
--- The turn of a cell's source in a history from this world on: the cell is asked, and the source's tally counts a turn more if the cell opens one, as
--- the contracts of `open_turn` say.
+-- The turn of a cell's source in a history from this world on: the cell is asked, and the source's tally counts another turn if
+-- the cell opens one, as the contracts of `open_turn` say.
 pub record IsTurnIn (w : WakeWorld every_kind.Cell) (hs : List (Happening every_kind.Own)) (cell key : ℕ) (before after : Tally) : Type 0 where
   pub asked : IsAsked hs cell key
   pub counted : after.turns ≡ before.turns + one (every_kind.opens key ((end_of every_kind w asked.earlier).cells cell))
 
--- The same of a ping's source, whose tally behind the turn is in all what the contract of `PingCore::open_turn` makes of the one before.
+-- The same of a ping's source, whose tally after the turn is just what `PingCore::open_turn`'s contract makes of the one before.
 pub record IsPingsTurnIn (w : WakeWorld every_kind.Cell) (hs : List (Happening every_kind.Own)) (cell key : ℕ) (before after : Tally) : Type 0 where
   pub asked : IsAsked hs cell key
   pub core : CoreView
   pub there : (end_of every_kind w asked.earlier).cells cell ≡ First core.cell
   pub counted : after ≡ tally_after_open_turn key core before
 
--- the world right behind a taking
+-- the world right after a taking
 abbrev pub world_behind_it : {before : List Note} → (K : Kind) → WakeWorld K.Cell → (hs : List (Happening K.Own)) → Taking before hs
     → WakeWorld K.Cell
 world_behind_it K w hs t = world_behind K (world_at K w hs t) (Noted (Unposted t.places t.keys))
 
--- The turn of an event that was handed out to a cell's source with this callback is one that the cell opened: its calls went to the callback, and
--- what is to be served behind it is the source with the callback as these left it.
+-- The turn of an event that was handed out to a cell's source with this callback is one that the cell opened: its calls went to
+-- the callback, and what is to be served after it is the source with the callback as these calls left it.
 pub record IsOpened {D I P X S F E M T : Type 0} (Opens : OpenTurns S E M T) (may : Calling F E M T X (Asks D I))
     (reaches : Asks D I → Asks D I → Type 0) (held : Dispatcher S F → D) (L : Meaning D P (Lent X (Asks D I))) (v : View D I P)
     (css : List (List (Change D I P))) (e : Pending) (h : IsHandedOut L v css e) (before : Dispatcher S F) : Type 0 where
@@ -80,8 +80,8 @@ pub record IsAtRest (w : WakeWorld every_kind.Cell) (cell key : ℕ) : Type 0 wh
   pub no_turn : every_kind.draining (w.cells cell) ≡ false
   pub no_pass : w.passes key ≡ 0
 
--- Of each cell that is at rest as the dispatch takes keys: if its event is handed out to a source with this meaning, and the turn that follows is
--- the turn of this cell, the cell opens it.
+-- Of each cell that is at rest when the dispatch takes keys: if its event is handed out to a source with this meaning, and the
+-- turn that follows is the turn of this cell, the cell opens it.
 abbrev pub OpensEachTurn : {D I P X S F E M T : Type 0} → (tally : S → Tally) → OpenTurns S E M T → Calling F E M T X (Asks D I)
     → (reaches : Asks D I → Asks D I → Type 0) → (held : Dispatcher S F → D) → Meaning D P (Lent X (Asks D I)) → View D I P
     → List (List (Change D I P)) → Type 0
@@ -95,19 +95,19 @@ OpensEachTurn {D} {I} {P} {X} {S} {F} tally Opens may reaches held L v css =
     → IsTurnIn (world_behind_it every_kind (start (λ n. new_cell (born n))) hs t) t.behind n k (tally before.source) (tally after.source))
     → IsOpened Opens may reaches held L v css (posted_event k) h before
 
--- how a ping's callback is called, without metadata and answer
+-- how a ping's callback is called, without metadata and result
 abbrev pub PingCalling : (F X Q : Type 0) → Type 1
 PingCalling F X Q = Calling F (Unit {0}) (Unit {0}) (Unit {0}) X Q
 
--- The turn of an event that was handed out to a ping's source with this callback is one that the cell opened, and just one call went to the callback.
+-- The cell opened the turn of an event handed out to a ping's source with this callback, and just one call went to the callback.
 abbrev pub IsCalledBack : {D I P X F : Type 0} → PingCalling F X (Asks D I) → (reaches : Asks D I → Asks D I → Type 0)
     → (held : Dispatcher Tally F → D) → (L : Meaning D P (Lent X (Asks D I))) → (v : View D I P) → (css : List (List (Change D I P)))
     → (e : Pending) → IsHandedOut L v css e → Dispatcher Tally F → Type 0
 IsCalledBack may reaches held L v css e h before =
     (turn : IsOpened PingOpens may reaches held L v css e h before) × (turn.calls ≡ calls_of true)
 
--- Of each ping that is rung as the dispatch takes keys: if its event is handed out to a source with a callback, and the turn that follows is the
--- turn of this ping's cell, the callback is called in that turn, once.
+-- Of each ping that is rung when the dispatch takes keys: if its event is handed out to a source with a callback, and the turn
+-- that follows is the turn of this ping's cell, the callback is called in that turn, once.
 abbrev pub CallsEachRing : {D I P X F : Type 0} → PingCalling F X (Asks D I) → (reaches : Asks D I → Asks D I → Type 0)
     → (held : Dispatcher Tally F → D) → Meaning D P (Lent X (Asks D I)) → View D I P → List (List (Change D I P)) → Type 0
 CallsEachRing {D} {I} {P} {X} {F} may reaches held M v css =

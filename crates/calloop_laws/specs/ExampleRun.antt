@@ -1,4 +1,4 @@
--- A run that there is: a timer for moment 5 is inserted into a new loop, is told of moment 6 instead where it stands, and a dispatch
+-- A possible run: a timer for moment 5 is inserted into a new loop, is set to moment 6 instead in its slot, and a dispatch
 -- whose wait ends at 5 calls it once, with the deadline that it was armed for.
 use Rattle.std.specs.Prelude.{◌≡◌, false, true, List, [], ◌∷◌, Some, None, Ok}
 use Rattle.logbook.specs.Pages.{Book}
@@ -46,7 +46,7 @@ only = with_callback timer_meaning leaves Reaches (λ cause e. e ≡ OutOfMemory
 abbrev pub no_idle : Runs Only (Unit {0}) (Unit {0})
 no_idle idle x q y r = r ≡ q
 
--- a poller that gives no event, and a clock that may show any moment
+-- a poller that returns no event, and a clock that may show any moment
 abbrev pub quiet_poller : Outside (Unit {0})
 quiet_poller =
     record {
@@ -120,7 +120,7 @@ of_the_insertion =
 abbrev pub of_the_exchange : List (List Its)
 of_the_exchange = (Swapped 0 as_armed as_changed ∷ []) ∷ []
 
--- a step of the dispatch a list
+-- the steps of the dispatch, a list for each
 abbrev pub of_the_dispatch : Book → List (List Its)
 of_the_dispatch name =
     (Counting 0 ∷ Holds Cleared ∷ Watching (with_note (Marked []) (record { name = name; notes = Counted 0 ∷ [] })) ∷ [])

@@ -1,4 +1,4 @@
--- Small histories and dispatches that the laws rule out, and one of each that there is.
+-- Small histories and dispatches that the laws rule out, and a possible one of each.
 use Rattle.std.specs.Prelude.{true, false, List, [], ◌∷◌, Some, None, Ok}
 use Rattle.logbook.specs.Pages.{Book}
 use Rattle.calloop_slots.specs.declared.list.Content.TheVariants.{Source, InTurn}
@@ -26,12 +26,12 @@ use Rattle.calloop_laws.specs.Histories.{Happening, Unseen, Noted}
 abbrev pub SmallHistory : Type 0
 SmallHistory = List (Happening every_kind.Own)
 
--- Histories that there aren't: from where keys 7 and 9 are posted.
+-- Impossible histories: from a board at which keys 7 and 9 are posted.
 
 abbrev pub two_posted : WakeWorld every_kind.Cell
 two_posted = record of_pings { board = record { key = 7; marked = true } ∷ record { key = 9; marked = true } ∷ [] }
 
--- a taking leaves 9 out, or takes it first, where there is room for both
+-- a taking leaves 9 out, or takes it first, when there is room for both
 abbrev pub leaves_one_out : SmallHistory
 leaves_one_out = Noted (Unposted 2 (7 ∷ [])) ∷ []
 
@@ -49,8 +49,8 @@ counts_one = Noted (Counted 1) ∷ []
 abbrev pub sees_nothing : SmallHistory
 sees_nothing = Noted (Looked false) ∷ []
 
--- A history that there is, in which a place is opened between count and taking: so there is no room for key 7, which stays posted. The
--- law has to ask that none is.
+-- A possible history, in which a place is opened between count and taking: so there is no room for key 7, which stays posted. The
+-- law has to require that none is opened.
 
 abbrev pub up_to_a_small_taking : SmallHistory
 up_to_a_small_taking =
@@ -70,8 +70,8 @@ up_to_a_small_taking =
 abbrev pub small_taking : Happening every_kind.Own
 small_taking = Noted (Unposted 1 (3 ∷ []))
 
--- A dispatch that there is, of a loop with one source, and a history of its board: the source's key is 0, it was rung before the dispatch, which
--- takes the key, and whose turn opens and ends a turn of the cell.
+-- A possible dispatch, of a loop with one source, and a history of its board: the source's key is 0, and it was rung before the
+-- dispatch, which takes the key, and whose turn opens and ends a turn of the cell.
 
 abbrev pub with_a_source : Book → SmallView
 with_a_source name =
@@ -143,7 +143,7 @@ history_of_a_ring =
 
 -- Dispatches that the law rules out.
 
--- the source stands where the event's token says, and the event goes to none
+-- the source is in the slot that the event's token names, and the event goes to none
 abbrev pub with_its_event : Book → SmallView
 with_its_event name =
     record {
@@ -156,7 +156,7 @@ with_its_event name =
 abbrev pub cuts_to_none : List (List SmallChange)
 cuts_to_none = (Cut None ∷ Ended ∷ []) ∷ []
 
--- it took keys 0 and 1, and ends where it cut the first alone
+-- it took keys 0 and 1, and ends after it cut the first alone
 abbrev pub ends_with_one_left : List (List SmallChange)
 ends_with_one_left = (Gathered (0 ∷ 1 ∷ []) [] 5 ∷ []) ∷ (Cut None ∷ Ended ∷ []) ∷ []
 
@@ -173,7 +173,7 @@ abbrev pub takes_nothing : Book → List (List SmallChange)
 takes_nothing name =
     (Watching (record { name = name; notes = Counted 0 ∷ Marked [] ∷ Looked false ∷ Unposted 0 [] ∷ [] }) ∷ []) ∷ []
 
--- cell 0 is pinged under key 7, which is nowhere; its key is cleared behind the taking, so that it has none as the dispatch ends
+-- cell 0 is pinged under key 7, which is nowhere; its key is cleared after the taking, so it has none when the dispatch ends
 abbrev pub with_a_ring_forgotten : WakeWorld every_kind.Cell
 with_a_ring_forgotten =
     record of_pings { cells = with_cell 0 (First (record fresh { rung = true; pinged = true; key = Some 7 })) of_pings.cells }

@@ -1,5 +1,5 @@
--- What a caller can show of a run, so that no source brings a counter of a timer or a key into the loop: of its calls with
--- their answers, and of the relations of its sources and idles. calloop's sources hold nothing of their loop that could be brought.
+-- What a caller can show of a run, so that no source brings a timer counter or a key into the loop: of its calls with
+-- their results, and of the relations of its sources and idles. calloop's sources hold nothing of their loop to bring.
 use Rattle.std.specs.Prelude.{List, [], ◌∷◌, Ok}
 use Rattle.std.proofs.Common.{sym, subst}
 use Rattle.calloop_slots.specs.declared.token.Token.{Token}
@@ -18,7 +18,7 @@ use Rattle.calloop_loop.specs.declared.asks.Request.TheVariants.{Insert as AskIn
 use Rattle.calloop_loop.specs.Askings.{Asks, Runs}
 use Rattle.calloop_laws.specs.Laws.{IsFresh, IsNoMore, Any, HasNoMoreKeys}
 
--- what it inserts is such
+-- a request that inserts a source inserts one that satisfies C
 abbrev pub IsOnly : {D I : Type 0} → (D → Type 0) → Request D I → Type 0
 IsOnly C (AskInsert d) = C d
 IsOnly C request = Unit {0}
@@ -27,7 +27,7 @@ abbrev pub AreOnly : {D I : Type 0} → (D → Type 0) → List (Asked D I) → 
 AreOnly C [] = Unit {0}
 AreOnly C (a ∷ as') = IsOnly C a.request × AreOnly C as'
 
--- a turn asks for no other insertions than of such sources
+-- a turn requests no other insertions than of such sources
 abbrev pub AsksOnly : {D I P X : Type 0} → (D → Type 0) → Meaning D P (Lent X (Asks D I)) → Type 0
 AsksOnly {D} {I} {P} {X} C m =
     (s t : D) (v : PollView P) (readiness : Readiness) (token : Token) (turn : Lent X (Asks D I))
@@ -35,12 +35,12 @@ AsksOnly {D} {I} {P} {X} C m =
     → m.does s v (Turned readiness token turn) steps t → AreOnly C turn.asked_before.written
     → AreOnly C turn.asked_after.written
 
--- and so does what runs at the end of a dispatch
+-- and neither does an idle, which runs at the end of a dispatch
 abbrev pub RunsOnly : {D I X : Type 0} → (D → Type 0) → Runs D I X → Type 0
 RunsOnly {D} {I} {X} C runs =
     (i : I) (x y : X) (q r : Asks D I) → runs i x q y r → AreOnly C q.written → AreOnly C r.written
 
--- a source that a call inserts is such; and one that takes another's place is such beside that, which the answer names
+-- every source that a call inserts satisfies C; every replacement satisfies S relative to the replaced one, named in the result
 abbrev pub CallBrings : {D I P X : Type 0} → (D → Type 0) → (D → D → Type 0) → LoopCall D P X I → LoopAnswer D P X I → Type 0
 CallBrings C S (Insert d) answer = C d
 CallBrings C S (Exchange token new) (Exchanged (Ok old)) = S old new
@@ -51,19 +51,19 @@ abbrev pub AllCallsBring : {D I P X : Type 0} → (D → Type 0) → (D → D �
 AllCallsBring C S (call ∷ calls) (answer ∷ answers) = CallBrings C S call answer × AllCallsBring C S calls answers
 AllCallsBring C S calls answers = Unit {0}
 
--- each turn and each idle asks for no other insertions than of sources that hold no counter
+-- each turn and each idle requests no other insertions than of sources that hold no counter
 abbrev pub AsksFresh : {D I P X : Type 0} → Meaning D P (Lent X (Asks D I)) → Type 0
 AsksFresh m = AsksOnly (IsFresh m) m
 
 abbrev pub RunsFresh : {D I P X : Type 0} → Meaning D P (Lent X (Asks D I)) → Runs D I X → Type 0
 RunsFresh m runs = RunsOnly (IsFresh m) runs
 
--- each source that a call inserts holds no counter; and one that takes another's place holds no more than that
+-- each source that a call inserts holds no counter; and a replacement holds at most what the replaced source holds
 abbrev pub AllFreshCalls : {D I P X : Type 0} → Meaning D P (Lent X (Asks D I)) → List (LoopCall D P X I)
     → List (LoopAnswer D P X I) → Type 0
 AllFreshCalls m calls answers = AllCallsBring (IsFresh m) (IsNoMore m) calls answers
 
--- and one that takes another's place has no key which that doesn't have
+-- and a replacement has no key that the replaced source doesn't have
 abbrev pub AllKeepKeys : {D I P X : Type 0} → Meaning D P (Lent X (Asks D I)) → List (LoopCall D P X I)
     → List (LoopAnswer D P X I) → Type 0
 AllKeepKeys m calls answers = AllCallsBring Any (HasNoMoreKeys m) calls answers

@@ -1,6 +1,6 @@
--- Histories of a board: a schedule of the wake machine, in which what the loop did to its board stands as its watch noted it. Each note
--- is true of the board at its moment, since it is made within the board's lock; other parties' steps come anywhere between. That what a
--- watch notes and what happens to the board is one history, is what the lock's contract gives: it's a premise here, and no law.
+-- Histories of a board: a schedule of the wake machine, in which what the loop did to its board is as its watch noted it. Each
+-- note is true of the board at its moment, since it is made in the board's lock; other parties' steps come anywhere between. The
+-- lock's contract gives that the notes of a watch and what happens to the board are one history: it's a premise here, not a law.
 use Rattle.std.specs.Prelude.{◌≡◌, ◌-◌, ◌^◌, ◌<◌, List, [], ◌∷◌, ◌++◌, length}
 use Rattle.calloop_wake.specs.Boards.{any_marked, bound, keys_within}
 use Rattle.calloop_wake_laws.specs.Wakes.{Kind, WakeWorld, WakeStep, OpenPlace, Unpost, Look, Needs, after}
@@ -8,7 +8,7 @@ use Rattle.calloop_wake.specs.declared.notes.Note.{Note}
 use Rattle.calloop_wake.specs.declared.notes.Note.TheVariants.{Counted, Looked, Unposted, Marked}
 
 pub data Happening (O : Type 0) : Type 0 where
-  -- a step of which no watch has a note, as a ring, a post, or a wait that returns
+  -- a step of which no watch has a note, e.g. a ring, a post, or a wait that returns
   Unseen : (step : WakeStep O) → Happening O
   -- what the loop did under the board's lock, as its watch has it
   Noted : (note : Note) → Happening O
@@ -28,7 +28,7 @@ CanHappen K w (Noted (Looked found)) = (found ≡ any_marked w.board) × Needs K
 CanHappen K w (Noted (Unposted room keys)) = keys ≡ keys_within room w.board
 CanHappen K w (Noted (Marked marks)) = Unit {0}
 
--- the steps of the wake machine that it is: to count the places is none, nor to take the adapters' marks
+-- the steps of the wake machine that it is; counting the places is none, nor is taking the adapters' marks
 abbrev pub steps_in : (K : Kind) → WakeWorld K.Cell → Happening K.Own → List (WakeStep K.Own)
 steps_in K w (Unseen s) = s ∷ []
 steps_in K w (Noted (Counted number)) = []
@@ -47,7 +47,7 @@ abbrev pub IsHistory : (K : Kind) → WakeWorld K.Cell → List (Happening K.Own
 IsHistory K w [] = Unit {0}
 IsHistory K w (h ∷ hs) = CanHappen K w h × IsHistory K (world_behind K w h) hs
 
--- the world where a history ends, and the schedule that it is
+-- the world in which a history ends, and the schedule that it is
 abbrev pub end_of : (K : Kind) → WakeWorld K.Cell → List (Happening K.Own) → WakeWorld K.Cell
 end_of K w [] = w
 end_of K w (h ∷ hs) = end_of K (world_behind K w h) hs

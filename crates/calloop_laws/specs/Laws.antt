@@ -44,11 +44,11 @@ use Rattle.calloop_loop.specs.Askings.{Asks}
 use Rattle.calloop_loop.specs.Held.{is_listed}
 use Rattle.calloop_loop.specs.Machine.{World, Registration, Change, Claim, Swapped, Cut, world_after, is_free, slot_of}
 
--- a source stands there that isn't in its turn
+-- a source is there that isn't in its turn
 abbrev pub IsSource : {D : Type 0} → Content D → Type 0
 IsSource {D} c = (d : D) × (c ≡ Source d)
 
--- an event goes to the source of the slot that its token names, reuse counts taken modulo the versions that there are, or to none where
+-- an event goes to the source of the slot that its token names, reuse counts taken modulo the number of versions, or to none if
 -- the token names no source
 abbrev pub GoesRight : {D : Type 0} → List (Registration D) → Token → Option ℕ → Type 0
 GoesRight {D} slots token None =
@@ -57,7 +57,7 @@ GoesRight {D} slots token (Some i) =
     (i ≡ token.slot) × (r : Registration D) × (slice_get slots i ≡ Some r) × (r.reuse % versions ≡ token.version)
     × IsSource r.content
 
--- the first event of the batch goes right
+-- the first event of the batch goes to the right source, or rightly to none
 abbrev pub FirstGoesRight : {D : Type 0} → List (Registration D) → List Pending → Option ℕ → Type 0
 FirstGoesRight slots [] place = ⊥
 FirstGoesRight slots (e ∷ es) place = GoesRight slots e.token place
@@ -66,7 +66,7 @@ abbrev pub IsRight : {D I P : Type 0} → World D I P → Change D I P → Type 
 IsRight w (Cut place) = FirstGoesRight w.slots w.poll.batch place
 IsRight w change = Unit {0}
 
--- each event that is cut in these changes goes right at its moment
+-- each event that is cut in these changes goes to the right source at its moment, or rightly to none
 abbrev pub AllRight : {D I P : Type 0} → World D I P → List (Change D I P) → Type 0
 AllRight w [] = Unit {0}
 AllRight w (c ∷ cs) = IsRight w c × AllRight (world_after w c) cs
@@ -75,7 +75,7 @@ abbrev pub flatten : {A : Type 0} → List (List A) → List A
 flatten [] = []
 flatten (xs ∷ xss) = xs ++ flatten xss
 
--- all changes of a run, one after the other
+-- all changes of a run, one after another
 abbrev pub changes_of : {D I P : Type 0} → List (List (List (Change D I P))) → List (Change D I P)
 changes_of [] = []
 changes_of (css ∷ csss) = flatten css ++ changes_of csss
@@ -84,8 +84,8 @@ changes_of (css ∷ csss) = flatten css ++ changes_of csss
 abbrev pub Names : {D I P : Type 0} → World D I P → Token → Registration D → Type 0
 Names w token r = (slice_get w.slots token.slot ≡ Some r) × (r.reuse % versions ≡ token.version)
 
--- a token that named a registration names it still, or a later one whose reuse count is greater by a positive
--- multiple of the versions that there are
+-- a token keeps naming its registration, or names a later one whose reuse count is greater by a positive
+-- multiple of the number of versions
 abbrev pub NamesLater : {D I P : Type 0} → World D I P → World D I P → Type 0
 NamesLater {D} {I} {P} w w' =
     (token : Token) (r r' : Registration D) → Names w token r → Names w' token r'
@@ -109,7 +109,7 @@ AnyTwo R (w ∷ ws) = AllBehind R w ws × AnyTwo R ws
 abbrev pub AllNamesLater : {D I P : Type 0} → List (World D I P) → Type 0
 AllNamesLater ws = AnyTwo NamesLater ws
 
--- a registration that was given up stays so: under this reuse count nothing stands in its slot any more
+-- a registration that was given up stays given up: under this reuse count nothing is in its slot any more
 abbrev pub StaysGone : {D I P : Type 0} → World D I P → World D I P → Type 0
 StaysGone {D} {I} {P} w w' =
     (i : ℕ) (r r' : Registration D) → slice_get w.slots i ≡ Some r → slice_get w'.slots i ≡ Some r' → r'.reuse ≡ r.reuse
@@ -123,7 +123,7 @@ AllStayGone ws = AnyTwo StaysGone ws
 abbrev pub one : {A : Type 0} → (A → Bool) → A → ℕ
 one p x = if p x then 1 else 0
 
--- how many pass
+-- how many satisfy the test
 abbrev pub how_many : {A : Type 0} → (A → Bool) → List A → ℕ
 how_many p [] = 0
 how_many p (x ∷ xs) = one p x + how_many p xs
@@ -148,7 +148,7 @@ is_arming_as n (Some a) = nat_eq a.number n
 abbrev pub is_call_as : (number : ℕ) → TimerCall → Bool
 is_call_as n c = is_arming_as n c.arming
 
--- how often the arming of this number stands in the deadlines, in the batch, among the cancelled ones, and among the
+-- how often the arming of this number is in the deadlines, in the batch, among the cancelled ones, and among the
 -- cut ones
 abbrev pub places : (number : ℕ) → Ledger → ℕ
 places n l =
@@ -195,7 +195,7 @@ pub record IsLedgerOf {P : Type 0} (l : Ledger) (v : PollView P) : Type 0 where
   -- the armings in the deadlines are its deadlines, and those in the batch belong to its batch
   pub entries : map entry_in l.armed ≡ v.deadlines.entries
   pub events : map event_of l.batch ≡ v.batch
-  -- each arming is in just one place
+  -- each arming is in exactly one place
   pub placed : (number : ℕ) → places number l ≡ (if nat_lt number l.count then 1 else 0)
   -- none was gathered before its deadline
   pub batch_on_time : AllOnTime l.batch
@@ -206,19 +206,19 @@ pub record IsLedgerOf {P : Type 0} (l : Ledger) (v : PollView P) : Type 0 where
   pub gathered : (number : ℕ)
       → how_many (is_call_as number) l.calls ≤ how_many (waits_as number) l.batch + how_many (waits_as number) l.cut
 
--- a dispatcher that holds no counter, as one that was never registered
+-- a dispatcher that holds no counter, e.g. one that was never registered
 abbrev pub HoldsNone : {D P X Q : Type 0} → Meaning D P (Lent X Q) → D → Type 0
 HoldsNone m d = (counter : ℕ) → m.holds d counter ≡ Free
 
--- what takes a source's place holds no counter that this doesn't hold, and each as this holds it
+-- a replacement holds no counter that the replaced source doesn't hold, and each as that holds it
 abbrev pub HoldsNoMore : {D P X Q : Type 0} → Meaning D P (Lent X Q) → (old new : D) → Type 0
 HoldsNoMore m old new = (counter : ℕ) → IsWithin (m.holds new counter) (m.holds old counter)
 
--- and has no key that this doesn't have
+-- and has no key that the replaced source doesn't have
 abbrev pub HasNoMoreKeys : {D P X Q : Type 0} → Meaning D P (Lent X Q) → (old new : D) → Type 0
 HasNoMoreKeys m old new = (key : ℕ) → m.keys new key → m.keys old key
 
--- what comes into the loop is such, and what takes a source's place is such beside it
+-- every inserted source satisfies C; every replacement satisfies S relative to the one it replaces
 abbrev pub Brings : {D I P : Type 0} → (D → Type 0) → (D → D → Type 0) → Change D I P → Type 0
 Brings C S (Claim source) = C source
 Brings C S (Swapped slot old new) = S old new
@@ -228,8 +228,8 @@ abbrev pub AllBring : {D I P : Type 0} → (D → Type 0) → (D → D → Type 
 AllBring C S [] = Unit {0}
 AllBring C S (c ∷ cs) = Brings C S c × AllBring C S cs
 
--- what comes into the loop holds no counter then: each source is used with one loop. One that was taken out holds none
--- any more, so it may come again. A source that is changed in its slot, or exchanged there, holds no more than before.
+-- an inserted source holds no counter: each source is used with one loop. A source that was taken out no longer holds any,
+-- so it may come again. A source that is changed in its slot, or exchanged there, holds at most what it held before.
 abbrev pub IsFresh : {D P X Q : Type 0} → Meaning D P (Lent X Q) → D → Type 0
 IsFresh m d = HoldsNone m d × m.fits d
 
@@ -239,19 +239,19 @@ IsNoMore m old new = HoldsNoMore m old new × m.fits new
 abbrev pub AllFresh : {D I P X Q : Type 0} → Meaning D P (Lent X Q) → List (Change D I P) → Type 0
 AllFresh m cs = AllBring (IsFresh m) (IsNoMore m) cs
 
--- whatever comes; and no exchange brings a key into the loop
+-- anything may be inserted; and no exchange brings a key into the loop
 abbrev pub Any : {D : Type 0} → D → Type 0
 Any d = Unit {0}
 
 abbrev pub AllBringNoKey : {D I P X Q : Type 0} → Meaning D P (Lent X Q) → List (Change D I P) → Type 0
 AllBringNoKey m cs = AllBring Any (HasNoMoreKeys m) cs
 
--- each of these stands once among them
+-- each of these is in the list once
 abbrev pub AllOnce : List RegistrationToken → Type 0
 AllOnce [] = Unit {0}
 AllOnce (t ∷ ts) = (is_listed t ts ≡ false) × AllOnce ts
 
--- the registrations that are told of waits: each stands once, and names a slot that isn't vacant
+-- the registrations that are told of waits: each is in the list once, and names a slot that isn't vacant
 pub record IsTold {D I P : Type 0} (w : World D I P) : Type 0 where
   pub once : AllOnce w.held.lifecycle
   pub full : (token : RegistrationToken) → is_listed token w.held.lifecycle ≡ true
@@ -267,14 +267,14 @@ abbrev pub stands_as : (ticket : ℕ) → Option ℕ → ℕ
 stands_as n None = 0
 stands_as n (Some ticket) = one (is_number n) ticket
 
--- how often a ticket stands: over a request that wasn't carried out yet, that is carried out, or whose answer is owed,
--- or over an answer
+-- at how many places a ticket is: at a request that wasn't carried out yet, that is being carried out, or whose answer is owed,
+-- or at an answer
 abbrev pub times_standing : {D I : Type 0} → (ticket : ℕ) → Asks D I → ℕ
 times_standing n q =
     how_many (is_asked_as n) q.written +
     (stands_as n q.serving + (stands_as n q.owed + how_many (is_answered_as n) q.answers))
 
--- a ticket that was given stands at most once, or its answer was handed out, once; no other ticket stands anywhere
+-- a ticket that was given is at one place at most, or its answer was handed out, once; no other ticket is anywhere
 abbrev pub IsTicketed : {D I P : Type 0} → World D I P → Type 0
 IsTicketed w =
     (n : ℕ) → times_standing n w.held.asks + how_many (is_number n) w.handed ≤ (if nat_lt n w.held.asks.next then 1 else 0)

@@ -1,5 +1,5 @@
--- What was queued before a dispatch takes keys is popped before a pop behind that finds no task. In calloop an executor's `process_events` takes its
--- runnables until there is none.
+-- What was queued before a dispatch takes keys is popped before a later pop that finds no task. In calloop an executor's
+-- `process_events` takes its runnables until there is none.
 use Rattle.std.specs.Prelude.{◌≡◌, ℕ, Bool, true, false, if◌then◌else◌, List, [], ◌∷◌, ◌++◌, nat_eq}
 use Rattle.calloop_wake.specs.declared.notes.Note.{Note}
 use Rattle.calloop_wake.specs.declared.notes.Note.TheVariants.{Counted, Looked, Unposted, Marked}
@@ -39,8 +39,8 @@ pub record FindsNoTask (w : WakeWorld every_kind.Cell) (hs : List (Happening eve
   pub there : (end_of every_kind w earlier).cells cell ≡ Second (Second executor)
   pub none : (after_poll finished executor.now).queue ≡ []
 
--- Of every history of a board, each taking of keys in it, each executor as it stood then, and each pop of it behind the taking that finds no task: by then
--- each task that was queued as the keys were taken was popped, in its order.
+-- Of every history of a board, each taking of keys in it, each executor as it was then, and each later pop of it that finds no
+-- task: by then each task that was queued when the keys were taken was popped, in its order.
 abbrev pub WhatWasQueuedIsPopped : (born : ℕ → Born) → List (Happening every_kind.Own) → Type 0
 WhatWasQueuedIsPopped born hs =
     (before : List Note) (t : Taking before hs) (n : ℕ) (p : ExecutorPast)
@@ -48,7 +48,7 @@ WhatWasQueuedIsPopped born hs =
     → (pop : FindsNoTask (world_behind_it every_kind (start (λ n. new_cell (born n))) hs t) t.behind n)
     → IsBeginningOf p.now.queue (popped_in n (world_behind_it every_kind (start (λ n. new_cell (born n))) hs t) pop.earlier)
 
--- A history that there is: a task is put into slot 2 before keys are taken; the turn behind that pops it, and then finds none.
+-- A possible history: a task is put into slot 2 before keys are taken; the later turn pops it, and then finds none.
 
 abbrev pub queued_before_it : List (Happening every_kind.Own)
 queued_before_it =

@@ -1,5 +1,5 @@
--- A run of a timer that is armed again: it is inserted for moment 5, its callback answers moment 10 then, and a second dispatch, whose wait ends at 10,
--- calls it once more, with that.
+-- A run of a timer that is armed again: it is inserted for moment 5, its callback then returns moment 10, and a second dispatch,
+-- whose wait ends at 10, calls it again, with that.
 use Rattle.std.specs.Prelude.{◌≡◌, nat_eq, false, true, List, [], ◌∷◌, Some, None, Ok, if◌then◌else◌}
 use Rattle.logbook.specs.Pages.{Book}
 use Rattle.calloop_slots.specs.declared.error.Error.TheVariants.{OutOfMemory}
@@ -32,7 +32,7 @@ use Rattle.calloop_laws.specs.ExampleRun.{Only, Its, as_made, first_arm, five, n
 abbrev pub ten : Instant
 ten = record { nanos = 10 }
 
--- a callback that answers moment 10 at moment 5, has its timer leave at any other, and asks for nothing
+-- a callback that returns moment 10 at moment 5, has its timer leave at any other, and asks for nothing
 abbrev pub arms_again : Unit {0} → Instant → Unit {0} → Unit {0} → Asks Only (Unit {0}) → TimeoutAction
     → Unit {0} → Unit {0} → Unit {0} → Asks Only (Unit {0}) → Type 0
 arms_again f deadline m x q answer g n y r =

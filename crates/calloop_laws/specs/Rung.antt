@@ -1,4 +1,4 @@
--- A dispatch that there is, of a loop of pings, in which the callback of a rung ping is called; and what the law rules out: that it isn't.
+-- A possible dispatch of a loop of pings that calls a rung ping's callback; and that it isn't called, which the law rules out.
 use Rattle.std.specs.Prelude.{◌≡◌, true, false, List, [], ◌∷◌, ◌++◌, Some}
 use Rattle.logbook.specs.Pages.{Book}
 use Rattle.calloop_slots.specs.declared.error.Error.{Error}
@@ -61,7 +61,7 @@ ringing = with_callback ping_meaning calls_anything asks_anything fails_never
 abbrev pub unknown : Meaning Rings (Unit {0}) (Lent (Unit {0}) RingAsks)
 unknown = record (still (λ s v deed t. Unit {0})) { does = λ s v deed steps t. Unit {0} }
 
--- the source has key 0; and as it is behind a turn that took a ring
+-- the source has key 0; and as it is after a turn that took a ring
 abbrev pub tally_before : Book → Tally
 tally_before name = record (fresh_tally name) { key = Some 0 }
 
@@ -80,7 +80,7 @@ with_a_ping name =
       signal = name;
     }
 
--- up to where the event of key 0 is cut, the cut, and the rest
+-- the changes up to the cut of the event of key 0, the cut, and the rest
 abbrev pub up_to_its_turn : Book → List (List RingChange)
 up_to_its_turn name =
     (Counting 1 ∷ Holds Cleared ∷ Watching (with_note (Marked []) (record { name = name; notes = Counted 1 ∷ [] })) ∷ [])

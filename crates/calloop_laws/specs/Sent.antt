@@ -1,5 +1,5 @@
--- What was sent before a dispatch takes keys is handed out before a pop behind that finds no message. In calloop a channel's `process_events` reads its
--- queue until that is empty.
+-- What was sent before a dispatch takes keys is handed out before a later pop that finds no message. In calloop a channel's
+-- `process_events` reads its queue until that is empty.
 use Rattle.std.specs.Prelude.{◌≡◌, ℕ, true, false, List, [], ◌∷◌, ◌++◌}
 use Rattle.calloop_wake.specs.declared.notes.Note.{Note}
 use Rattle.calloop_wake.specs.declared.notes.Note.TheVariants.{Counted, Looked, Unposted, Marked}
@@ -11,7 +11,7 @@ use Rattle.calloop_laws.specs.Histories.{Happening, Unseen, Noted, end_of}
 use Rattle.calloop_laws.specs.Tied.{Taking, world_at}
 use Rattle.calloop_laws.specs.Called.{world_behind_it}
 
--- a pop of the channel of this number in a history from this world on, as it stood then, which finds no message
+-- a pop of the channel of this number, as it was then, in a history from this world on, which finds no message
 pub record FindsNoMessage (w : WakeWorld every_kind.Cell) (hs : List (Happening every_kind.Own)) (cell : ℕ) : Type 0 where
   pub earlier : List (Happening every_kind.Own)
   pub later : List (Happening every_kind.Own)
@@ -25,8 +25,8 @@ pub record IsBeginningOf (front whole : List ℕ) : Type 0 where
   pub more : List ℕ
   pub is : whole ≡ front ++ more
 
--- Of every history of a board from where nothing has happened, each taking of keys in it, each channel as it stood then, and each pop of it
--- behind the taking that finds no message: by then all that had been put as the keys were taken was handed out, in its order.
+-- Of every history of a board from the start, each taking of keys in it, each channel as it was then, and each later pop of it
+-- that finds no message: by then all that had been put when the keys were taken was handed out, in its order.
 abbrev pub WhatWasSentIsGiven : (born : ℕ → Born) → List (Happening every_kind.Own) → Type 0
 WhatWasSentIsGiven born hs =
     (before : List Note) (t : Taking before hs) (n : ℕ) (p : ChannelPast)
@@ -34,7 +34,7 @@ WhatWasSentIsGiven born hs =
     → (pop : FindsNoMessage (world_behind_it every_kind (start (λ n. new_cell (born n))) hs t) t.behind n)
     → IsBeginningOf p.taken pop.channel.given
 
--- A history that there is: message 3 is put before keys are taken; the turn behind that pops it, and then finds none.
+-- A possible history: message 3 is put before keys are taken; the later turn pops it, and then finds none.
 
 abbrev pub sent_before_it : List (Happening every_kind.Own)
 sent_before_it =

@@ -1,5 +1,5 @@
--- What a dispatch has done when it answers `Ok`: what it gathered was cut, all of it, in its order; no deadline that had come
--- stayed behind; and a round of idles ran. Calloop says none of it.
+-- What a dispatch has done when it returns `Ok`: what it gathered was cut, all of it, in its order; no deadline that had come
+-- was left; and a round of idles ran. calloop says none of it.
 use Rattle.std.specs.Prelude.{◌≡◌, ℕ, ◌+◌, ◌<◌, ◌≤◌, ◌⊎◌, List, [], ◌∷◌, ◌++◌, Option, Ok}
 use Rattle.std.specs.List.{Contains}
 use Rattle.calloop_slots.specs.declared.wheel.Entry.{Entry}
@@ -17,9 +17,9 @@ use Rattle.calloop_laws.specs.Laws.{flatten}
 use Rattle.calloop_loop.specs.Machine.{View, Change, Holds, Gathered, Cut, after_change, all_viewed}
 use Rattle.calloop_loop.specs.Rules.{DispatchedBy}
 
--- What is told of a dispatch: where it began; what the clock answered as it gathered, and what stood there right before that and
--- right behind it; the events that it cut, in their order; the round of idles that it took up, which of them began, and the tickets of
--- those that were cancelled from there on; and where it ended.
+-- The account of a dispatch: the state in which it began; what the clock showed at the gathering, and the states right before and
+-- right after that; the events that it cut, in their order; the round of idles that it took up, which of them began, and the
+-- tickets of those that were cancelled from then on; and the state in which it ended.
 pub record Account (D I P : Type 0) : Type 0 where
   pub began : View D I P
   pub now : ℕ
@@ -47,8 +47,8 @@ gatherings [] = 0
 gatherings (Gathered posted given now ∷ cs) = 1 + gatherings cs
 gatherings (c ∷ cs) = gatherings cs
 
--- that is done once in these changes, before any event is cut: with this answer of the clock, from the one state to the other;
--- and these events are cut behind it
+-- that is done once in these changes, before any event is cut: with this moment of the clock, from the one state to the other;
+-- and these events are cut after it
 abbrev pub Gathers : {D I P : Type 0} → (now : ℕ) → (before behind : View D I P) → List Pending → View D I P
     → List (Change D I P) → Type 0
 Gathers now t u es v [] = ⊥
@@ -77,7 +77,7 @@ rounds [] = 0
 rounds (Holds IdlesTaken ∷ cs) = 1 + rounds cs
 rounds (c ∷ cs) = rounds cs
 
--- one does, once: it is of these idles, of which these begin behind that; and these tickets are cancelled
+-- exactly one round begins: it is of these idles, of which these begin after that; and these tickets are cancelled
 abbrev pub RunsRound : {D I P : Type 0} → (round begun : List (Waiter I)) → (cancelled : List ℕ) → View D I P
     → List (Change D I P) → Type 0
 RunsRound is js ns v [] = ⊥
@@ -86,13 +86,13 @@ RunsRound is js ns v (Holds IdlesTaken ∷ cs) =
     × (ns ≡ idles_cancelled cs) × (rounds cs ≡ 0)
 RunsRound is js ns v (c ∷ cs) = RunsRound is js ns (after_change v c) cs
 
--- this is told of a dispatch that began there and made these changes
+-- the account of a dispatch that began there and made these changes
 abbrev pub IsAccountOf : {D I P : Type 0} → Account D I P → View D I P → List (Change D I P) → Type 0
 IsAccountOf a v cs =
     (a.began ≡ v) × (a.ended ≡ all_viewed v cs) × Gathers a.now a.before a.gathered a.cut v cs
     × RunsRound a.round a.begun a.cancelled v cs
 
--- whatever poller, sources, callbacks and idles answer: of each dispatch that answers `Ok` there is an account, and this holds of it
+-- whatever poller, sources, callbacks and idles return: each dispatch that returns `Ok` has an account, and this holds of it
 abbrev pub OverEveryDispatch : {D I P X : Type 0} → Meaning D P (Lent X (Asks D I)) → Runs D I X → Outside P
     → (Account D I P → Type 0) → Type 0
 OverEveryDispatch {D} {I} {P} {X} M runs O Law =
@@ -104,8 +104,8 @@ OverEveryDispatch {D} {I} {P} {X} M runs O Law =
 abbrev pub NothingIsLeft : {D I P : Type 0} → Account D I P → Type 0
 NothingIsLeft a = a.ended.poll.batch ≡ []
 
--- the events that were cut are those that stood in the batch right behind the gathering, in their order: what was left over by
--- an earlier dispatch, what sources asked for, posted keys, what the poller gave, and timers
+-- the events that were cut are those in the batch right after the gathering, in their order: what was left over by
+-- an earlier dispatch, what sources asked for, posted keys, what the poller returned, and timers
 abbrev pub AllAreCut : {D I P : Type 0} → Account D I P → Type 0
 AllAreCut a = a.cut ≡ a.gathered.poll.batch
 
@@ -114,7 +114,7 @@ abbrev pub AllLater : (now : ℕ) → List Entry → Type 0
 AllLater now [] = Unit {0}
 AllLater now (e ∷ es) = (now < e.deadline.nanos) × AllLater now es
 
--- where the deadlines were sorted as it began, as a wheel keeps them: each one that had come at the gathering left them there
+-- if the deadlines were sorted when it began, as a wheel keeps them: each one that had come at the gathering left them then
 abbrev pub NoneIsLate : {D I P : Type 0} → Account D I P → Type 0
 NoneIsLate a = IsOrdered a.began.poll.deadlines → AllLater a.now a.gathered.poll.deadlines.entries
 
@@ -124,7 +124,7 @@ DueAreCut a =
     IsOrdered a.began.poll.deadlines
     → (e : Entry) → Contains a.before.poll.deadlines.entries e → e.deadline.nanos ≤ a.now → Contains a.cut (timer_event e)
 
--- which they are wherever a run from the start ends
+-- the deadlines are sorted whenever a run from the start ends
 abbrev pub DeadlinesStaySorted : {D I P X : Type 0} → LoopRun D I P X → Type 0
 DeadlinesStaySorted r = IsOrdered r.ended.poll.deadlines
 

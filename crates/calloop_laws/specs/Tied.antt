@@ -1,5 +1,5 @@
--- A dispatch and a history of its board: what was posted as the dispatch took keys is handed out by its end. Calloop rests on the
--- kernel for it.
+-- A dispatch and a history of its board: what was posted when the dispatch took keys is handed out by its end. calloop relies on
+-- the kernel for it.
 use Rattle.std.specs.Prelude.{◌≡◌, ℕ, ◌<◌, ◌⊎◌, true, false, List, [], ◌∷◌, ◌++◌, Some, Ok}
 use Rattle.std.specs.List.{Contains}
 use Rattle.calloop_wake.specs.Boards.{is_marked, keys_within}
@@ -29,8 +29,8 @@ IsPinged K w n k = (K.pinged (w.cells n) ≡ true) × (K.key (w.cells n) ≡ Som
 abbrev pub IsOut : {C : Type 0} → WakeWorld C → (key : ℕ) → Type 0
 IsOut w k = (0 < w.debts k) ⊎ (0 < w.passes k)
 
--- Where a dispatch counted the places and where it took keys, in a history up to its end: behind what was noted before it, with room for so many
--- as there were places, and nothing is noted behind it.
+-- When a dispatch counted the places and when it took keys, in a history up to its end: after what was noted before it, with room
+-- for as many as there were places, and nothing is noted after it.
 pub record Taking {O : Type 0} (before : List Note) (hs : List (Happening O)) : Type 0 where
   pub ahead : List (Happening O)
   pub between : List (Happening O)
@@ -41,7 +41,7 @@ pub record Taking {O : Type 0} (before : List Note) (hs : List (Happening O)) : 
   pub began : notes_of ahead ≡ before
   pub over : notes_of behind ≡ []
 
--- the world in which it takes them, where the history begins in this one
+-- the world in which it takes them, if the history begins in this one
 abbrev pub world_at : {before : List Note} → (K : Kind) → WakeWorld K.Cell → (hs : List (Happening K.Own)) → Taking before hs
     → WakeWorld K.Cell
 world_at K w hs t = end_of K w (t.ahead ++ Noted (Counted t.places) ∷ t.between)
@@ -53,15 +53,15 @@ pub record IsServedAt {D I P X : Type 0} (K : Kind) (M : Meaning D P (Lent X (As
   -- it took the lowest posted keys, as many as there were places at the count, and the event of each is handed out
   pub lowest : t.keys ≡ keys_within t.places (world_at K w hs t).board
   pub handed_out : (k : ℕ) → Contains t.keys k → IsHandedOut M v css (posted_event k)
-  -- what mustn't be lost in a cell was pinged then, or a turn of the cell stood open; and so it is as the dispatch ends
+  -- what mustn't be lost in a cell was pinged then, or a turn of the cell was open; and so it is when the dispatch ends
   pub standing : (n : ℕ) → K.IsStanding ((world_at K w hs t).cells n)
   pub standing_later : (n : ℕ) → K.IsStanding ((end_of K w hs).cells n)
-  -- where no place was opened between the two, each key that was posted then is one of them
+  -- if no place was opened between the two, each key that was posted then is one of them
   pub all_taken : OpensNone t.between → (k : ℕ) → is_marked k (world_at K w hs t).board ≡ true → Contains t.keys k
   -- so of a cell that was pinged then, under a key, the event is handed out, or the key was still to be posted, or held
   pub rung : OpensNone t.between → (n k : ℕ) → IsPinged K (world_at K w hs t) n k
       → IsHandedOut M v css (posted_event k) ⊎ IsOut (world_at K w hs t) k
-  -- and a cell that is pinged as the dispatch ends, under a key, was posted since, or the key is still to be posted, or held
+  -- and a cell that is pinged when the dispatch ends, under a key, was posted since, or the key is still to be posted, or held
   pub left : OpensNone t.between → (n k : ℕ) → IsPinged K (end_of K w hs) n k
       → IsMadeIn (Post k) t.behind ⊎ IsOut (end_of K w hs) k
 
@@ -72,18 +72,18 @@ pub record IsServedOf {D I P X : Type 0} (K : Kind) (M : Meaning D P (Lent X (As
   -- it took keys in it, once
   pub taking : Taking v.poll.watch.notes hs
   pub served : (t : Taking v.poll.watch.notes hs) → IsServedAt K M w hs v css t
-  -- and each event that was left over before it is handed out too, whose pass the loop holds, where it is a posted one
+  -- and each event that was left over before it is handed out too; the loop holds its pass, if it is a posted one
   pub left_over : (e : Pending) → Contains v.poll.batch e → IsHandedOut M v css e
 
--- whatever happened to the board since nothing had happened, by any number of cells and parties, if its notes are those of the watch as the
--- dispatch ends
+-- whatever happened to the board since the start, by any number of cells and parties, if its notes are those of the watch when
+-- the dispatch ends
 abbrev pub ServesWhatIsPosted : {D I P X : Type 0} → Meaning D P (Lent X (Asks D I)) → View D I P → List (List (Change D I P)) → Type 0
 ServesWhatIsPosted M v css =
     (born : ℕ → Born) (hs : List (Happening every_kind.Own)) → IsHistory every_kind (start (λ n. new_cell (born n))) hs
     → notes_of hs ≡ (after_changes v css).poll.watch.notes
     → IsServedOf every_kind M (start (λ n. new_cell (born n))) hs v css
 
--- of a ping under this key: a ring stands, or a close that no turn told; no turn of it is open, and its key is neither owed nor held
+-- of a ping under this key: a ring or an untold close is pending; no turn of it is open, and its key is neither owed nor held
 pub record IsRung (w : WakeWorld every_kind.Cell) (cell key : ℕ) : Type 0 where
   pub ping : Cell
   pub is : w.cells cell ≡ First ping
@@ -93,7 +93,7 @@ pub record IsRung (w : WakeWorld every_kind.Cell) (cell key : ℕ) : Type 0 wher
   pub no_debt : w.debts key ≡ 0
   pub no_pass : w.passes key ≡ 0
 
--- each ping that is rung so as the dispatch takes keys: its event is handed out by the dispatch's end
+-- each ping that is rung so when the dispatch takes keys: its event is handed out by the dispatch's end
 abbrev pub ServesEachRing : {D I P X : Type 0} → Meaning D P (Lent X (Asks D I)) → View D I P → List (List (Change D I P)) → Type 0
 ServesEachRing M v css =
     (born : ℕ → Born) (hs : List (Happening every_kind.Own)) → IsHistory every_kind (start (λ n. new_cell (born n))) hs
@@ -101,14 +101,14 @@ ServesEachRing M v css =
     → (t : Taking v.poll.watch.notes hs) → OpensNone t.between
     → (n k : ℕ) → IsRung (world_at every_kind (start (λ n. new_cell (born n))) hs t) n k → IsHandedOut M v css (posted_event k)
 
--- Over a run: its history goes on behind each dispatch.
+-- Over a run: its history goes on after each dispatch.
 
--- where the call was a dispatch that answered `Ok`
+-- if the call was a dispatch that returned `Ok`
 abbrev pub IfServed : {D P X I : Type 0} → LoopAnswer D P X I → Type 0 → Type 0
 IfServed (Dispatched (Ok u) x) T = T
 IfServed answer T = Unit {0}
 
--- this holds of each such dispatch, by where it began and what it changed
+-- this holds of each such dispatch, by the state in which it began and what it changed
 abbrev pub OfEachDispatch : {D I P X : Type 0} → (View D I P → List (List (Change D I P)) → Type 0) → List (LoopAnswer D P X I)
     → List (List (List (Change D I P))) → World D I P → Type 0
 OfEachDispatch Law [] csss w = Unit {0}
@@ -127,8 +127,8 @@ pub record IsServedWithin {D I P X : Type 0} (K : Kind) (M : Meaning D P (Lent X
   pub served : (ahead behind : List (Happening K.Own)) → hs ≡ ahead ++ behind
       → notes_of ahead ≡ (after_changes v css).poll.watch.notes → IsServedOf K M w ahead v css
 
--- of a run and of a history from where nothing had happened to the board up to the run's end, whose notes are those of the loop's watch: so of
--- each dispatch that answered `Ok`
+-- of a run and of a board's history from the start up to the run's end, whose notes are those of the loop's watch: so of
+-- each dispatch that returned `Ok`
 abbrev pub EachServesWhatIsPosted : {D I P X : Type 0} → Meaning D P (Lent X (Asks D I)) → LoopRun D I P X → Type 0
 EachServesWhatIsPosted M r =
     (born : ℕ → Born) (hs : List (Happening every_kind.Own)) → IsHistory every_kind (start (λ n. new_cell (born n))) hs

@@ -1,4 +1,4 @@
--- Small dispatches that don't do what the laws over each dispatch say, and what is told of one that there is.
+-- Small dispatches that don't do what the laws over each dispatch say, and the account of a possible one.
 use Rattle.std.specs.Prelude.{◌≡◌, ℕ, false, List, [], ◌∷◌, None}
 use Rattle.logbook.specs.Pages.{Book}
 use Rattle.calloop_slots.specs.declared.wheel.Entry.{Entry}
@@ -44,7 +44,7 @@ two_events = event_for 0 ∷ event_for 1 ∷ []
 abbrev pub two_wait : Book → SmallView
 two_wait name = that_waits name two_events [] []
 
--- What dispatches changed, of which no account does.
+-- Changes of dispatches that have no account.
 
 -- of two events that wait it cuts the first alone, or both
 abbrev pub cuts_one : List SmallChange
@@ -53,7 +53,7 @@ cuts_one = Gathered [] [] 5 ∷ Cut None ∷ Ended ∷ Holds IdlesTaken ∷ []
 abbrev pub cuts_two : List SmallChange
 cuts_two = Gathered [] [] 5 ∷ Cut None ∷ Ended ∷ Cut None ∷ Ended ∷ Holds IdlesTaken ∷ []
 
--- it cuts both, and one more that joined them behind the gathering
+-- it cuts both, and another that joined them after the gathering
 abbrev pub cuts_three : List SmallChange
 cuts_three = Gathered [] [] 5 ∷ Appended (event_for 2) ∷ Cut None ∷ Cut None ∷ Cut None ∷ Ended ∷ Holds IdlesTaken ∷ []
 
@@ -90,7 +90,7 @@ later_idle = record { ticket = 1; idle = tt }
 abbrev pub two_idles_wait : Book → SmallView
 two_idles_wait name = that_waits name [] [] (one_idle ∷ later_idle ∷ [])
 
--- What is told of dispatches, which the laws rule out.
+-- Accounts of dispatches, which the laws rule out.
 
 -- both events were cut, in the other order
 abbrev pub in_another_order : Book → SmallAccount
@@ -158,7 +158,7 @@ cuts_the_first_timer name =
 abbrev pub NothingIsCut : {D I P : Type 0} → Account D I P → Type 0
 NothingIsCut a = a.cut ≡ []
 
--- What is told of the dispatch of the run that there is: it gathered at 5, and cut the event of the timer for 5.
+-- The account of the dispatch of `run_that_there_is`: it gathered at 5, and cut the event of the timer for 5.
 abbrev pub before_its_dispatch : Book → View Only (Unit {0}) (Unit {0})
 before_its_dispatch name = visible (all_traced (all_traced (new_world name) of_the_insertion) of_the_exchange)
 

@@ -69,7 +69,7 @@ TellsInTheOrderOfSlots v =
     Step silent (λ i x q y r. Unit {0}) any_poller v (Settling None [] tt) []
     (Sleeping None (first_registration ∷ second_registration ∷ []) tt)
 
--- a slot that is used for the first time, or once more, with a source that is one of all alike
+-- a slot that is used for the first time, or again, with a source that is one of all alike
 abbrev pub full_slot : (reuse : ℕ) → Registration (Unit {0})
 full_slot reuse = record { reuse = reuse; content = Source tt }
 
@@ -187,7 +187,7 @@ one_ticket = record no_asks { next = 1 }
 abbrev pub in_its_turn : Registration (Unit {0})
 in_its_turn = record { reuse = 0; content = InTurn }
 
--- one that was called for by an arming which isn't the one that was gathered, though it has its number
+-- a call by an arming that isn't the one that was gathered, though it has its number
 abbrev pub called_for : Arming → Ledger
 called_for other =
     record new_ledger {

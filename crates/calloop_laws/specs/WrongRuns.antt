@@ -1,5 +1,5 @@
--- Small runs that are wrong at their end alone, or in their second element alone: the laws over all runs rule each of them out, so none
--- of these laws speaks of a run's beginning alone, nor of the first of some elements. What isn't named here is right in each.
+-- Small runs that are wrong at their end alone, or in their second element alone: the laws over all runs rule each of them out,
+-- so no law speaks of a run's beginning alone, nor of the first of some elements. All that isn't named here is right in each.
 use Rattle.std.specs.Prelude.{◌≡◌, ℕ, false, List, [], ◌∷◌, Some, None, Ok, map}
 use Rattle.logbook.specs.Pages.{Book}
 use Rattle.calloop_slots.specs.declared.list.Content.TheVariants.{Source, InTurn}
@@ -89,7 +89,7 @@ idle_world name =
       signal = name;
     }
 
--- Where events go, what a token names, and what was given up: runs of any beginning.
+-- The source of each event, what a token names, and what was given up: runs from any state.
 
 -- a run of these changes
 abbrev pub of_changes : List SmallChange → SmallWorld → SmallRun
@@ -145,7 +145,7 @@ of_moments name first second third =
       ended = with_slot name third;
     }
 
--- the token of the first moment names a lesser reuse count in the last one, where it named nothing in between; or that of the
+-- the token of the first moment names a lesser reuse count in the last one, and nothing in between; or that of the
 -- second does
 abbrev pub ends_under_an_earlier_use : Book → SmallRun
 ends_under_an_earlier_use name = of_moments name (full_slot versions) (full_slot 1) (full_slot 0)
@@ -160,7 +160,7 @@ ends_with_what_was_given_up name = of_moments name (given_up 0) (full_slot 1) (f
 abbrev pub goes_back_to_what_was_given_up : Book → SmallRun
 goes_back_to_what_was_given_up name = of_moments name (full_slot 1) (given_up 0) (full_slot 0)
 
--- Runs from where nothing has happened, which are wrong as they end.
+-- Runs from the start, which are wrong when they end.
 
 abbrev pub that_ends : {D : Type 0} → Book → World D (Unit {0}) (Unit {0}) → LoopRun D (Unit {0}) (Unit {0}) (Unit {0})
 that_ends name w =
@@ -211,7 +211,7 @@ second_at moment =
 abbrev pub second_call : Instant → TimerCall
 second_call deadline = record { deadline = deadline; arming = Some second_arming }
 
--- both were made, and are where these lists say
+-- both were made, and are in these lists
 abbrev pub two_made : (batch cut : List Waiting) → Ledger
 two_made batch cut =
     record new_ledger { batch = batch; cut = cut; made = second_arming ∷ first_arming ∷ []; count = 2 }

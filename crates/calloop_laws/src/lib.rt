@@ -1,5 +1,5 @@
-//! What holds of every run of a loop: laws of the machine of `calloop`'s contracts, runs that there are, and wrong ones that the laws rule
-//! out; and what holds of a loop together with the wake machine, whose steps its board makes. Nothing of `calloop` stands on them.
+//! What holds of every run of a loop: laws of the machine of `calloop`'s contracts, possible runs, and wrong ones that the laws
+//! rule out; and what holds of a loop with the wake machine, whose steps its board makes. Nothing of `calloop` depends on them.
 #![tactic(auto)]
 
 ghost use Rattle.std.specs.Prelude.{◌≡◌, ℕ, List, [], ◌∷◌, Some, None, ◌++◌, true, Ok};
@@ -56,20 +56,20 @@ pub use turns::{
     what_was_queued_is_popped, what_was_sent_is_given,
 };
 
-/// Over every run of the machine, from any state: each event that is cut goes to just the source that its token names
-/// at that moment, or to none; a token that named a registration names a later one of its slot only where the
-/// reuse count is greater by a positive multiple of `VERSIONS`; and a registration that was given up stays so.
+/// Over every run of the machine, from any state: each event that is cut goes to exactly the source that its token names
+/// at that moment, or to none; a token that named a registration names a later one of its slot only if the reuse count is
+/// greater by a positive multiple of `VERSIONS`; and a registration that was given up stays given up.
 ///
-/// And from a state in which nothing has happened, where no source held a counter of a timer of this loop when it came in: each
-/// arming of a timer is in just one place, also across errors and re-arming; each call of a timer belongs to an arming of its own,
-/// which was gathered when its deadline had come, and hands out its deadline. That premise is on the run (`brought`): whatever the
-/// relations of callbacks and idles allow, what counts is what came in. It follows from premises on calls and relations (`armings`),
-/// where turns and idles ask for no other insertions than of sources that hold none.
+/// And from a state in which nothing has happened, if no source held a timer counter of this loop when it came in: each
+/// arming of a timer is in exactly one place, also across errors and re-arming; each call of a timer belongs to an arming of its
+/// own, which was gathered when its deadline had come, and hands out its deadline. That premise is on the run (`brought`):
+/// whatever the relations of callbacks and idles allow, what counts is what came in. It follows from premises on calls and
+/// relations (`armings`), by which turns and idles request no other insertions than of sources that hold none.
 ///
-/// And from such a state, each registration that is told of waits stands once in their list, and names a slot that isn't vacant;
-/// and each source that stands in a slot is registered under keys of that slot alone, of the version under which it stands there.
+/// And from such a state, each registration that is told of waits is in their list once, and names a slot that isn't vacant;
+/// and each source in a slot is registered under keys of that slot alone, of the version under which it is there.
 ///
-/// And from such a state, each ticket that was given stands over one request or one answer at most, and its answer is handed out
+/// And from such a state, each ticket that was given is of at most one request or one answer, and its answer is handed out
 /// at most once.
 pub fn once<D: EventDispatcher<P, C, R>, P: Poller, C: Clock, R: Wait + Drop>()
     ensures sound { OverEveryRun D.means D.Idle.runs P.outside EventsReachTheirSource }
@@ -84,13 +84,13 @@ pub fn once<D: EventDispatcher<P, C, R>, P: Poller, C: Clock, R: Wait + Drop>()
         (FromTheStart TicketsAreOfOneAnswer) }
 {}
 
-/// Over every dispatch that answers `Ok`, from any state, whatever poller, sources, callbacks and idles answer: it gathered, once. No event
-/// is left waiting as it ends. The events that stood in the batch right behind the gathering were cut, all of them, in that order,
-/// and no others. Where the deadlines were sorted, as a wheel keeps them and as they are in every run from the start (`sorted`), none that had
-/// come by the clock's answer stays armed right behind the gathering, and each timer that was armed for such a one was cut. And it took up a
-/// round of idles, once, each of which has begun or was cancelled.
+/// Over every dispatch that returns `Ok`, from any state, whatever poller, sources, callbacks and idles return: it gathered,
+/// once. No event is left waiting when it ends. The events in the batch right after the gathering were cut, all of them, in that
+/// order, and no others. If the deadlines were sorted, as a wheel keeps them and as they are in every run from the start
+/// (`sorted`), none that had come by the clock then is armed right after the gathering, and each timer that was armed for such a
+/// one was cut. And it took up a round of idles, once, each of which has begun or was cancelled.
 ///
-/// So a timer that is due when a dispatch gathers is cut in this same dispatch, or the dispatch answers an error.
+/// So a timer that is due when a dispatch gathers is cut in this same dispatch, or the dispatch fails.
 pub fn each_dispatch_serves_all<D: EventDispatcher<P, C, R>, P: Poller, C: Clock, R: Wait + Drop>()
     ensures nothing_left { OverEveryDispatch D.means D.Idle.runs P.outside NothingIsLeft }
     ensures all_cut { OverEveryDispatch D.means D.Idle.runs P.outside AllAreCut }
@@ -100,12 +100,12 @@ pub fn each_dispatch_serves_all<D: EventDispatcher<P, C, R>, P: Poller, C: Clock
     ensures sorted { OverEveryRun D.means D.Idle.runs P.outside (FromTheStart DeadlinesStaySorted) }
 {}
 
-/// What `each_dispatch_serves_all` rules out, each by its own definitions: a dispatch that cuts one event of two and ends; one that cuts both and one more that
-/// joined them behind the gathering; one that cuts an event before it gathers, that doesn't gather, that gathers twice, or that begins no round of
-/// idles, of which there is no account; one that ends with an idle of its round, the first or the second; an account of two events in another
-/// order, which isn't one of the dispatch that cut them; one in which a timer for the very moment of the gathering stays armed, as the
-/// first of two or behind one that is later, or isn't cut; and one in which the second of two earlier timers isn't cut. And an account that
-/// there is: of the dispatch of `run_that_there_is`, which gathers at 5 and cuts the event of the timer for 5.
+/// What `each_dispatch_serves_all` rules out, each by its own definitions: a dispatch cuts one event of two and ends, or cuts
+/// both and another that joined them after the gathering; it cuts an event before it gathers, doesn't gather, gathers twice, or
+/// begins no round of idles: these have no account; it ends with an idle of its round left, the first or the second; an account
+/// has two events in another order than they were cut; in it a timer for the very moment of the gathering stays armed, as the
+/// first of two or behind a later one, or isn't cut; or the second of two earlier timers isn't cut. And a possible account: of
+/// the dispatch of `run_that_there_is`, which gathers at 5 and cuts the event of the timer for 5.
 pub fn unserved_dispatches_are_ruled_out()
     ensures there_is { (name : Book)
         → IsAccountOf (account_of_it name) (before_its_dispatch name)
@@ -136,9 +136,9 @@ pub fn unserved_dispatches_are_ruled_out()
     ensures overdue_not_cut { (name : Book) → ¬ DueAreCut (cuts_the_first_timer name) }
 {}
 
-/// The law of armings of a loop whose callbacks ask for nothing, as each `On`: its own calls are all that has to be looked at. Where each source
-/// that these insert holds no counter of a timer, and each that they exchange holds no more than the one before, no timer is called
-/// early, nor twice for one arming.
+/// The law of armings of a loop whose callbacks ask for nothing, as each `On`: only the loop's own calls have to be looked at. If
+/// each source that these insert holds no timer counter, and each replacement holds at most what the one before held, no timer is
+/// called early, nor twice for one arming.
 pub fn once_where_nothing_is_asked<D, P: Poller, C: Clock, R: Wait + Drop>()
 where
     D: EventDispatcher<P, C, R>
@@ -159,10 +159,10 @@ where
     once::<D, P, C, R>();
 }
 
-/// A run that there is, of which the premises of `once` are proved, so that its laws are of this run: a timer for moment 5 is inserted into
-/// a new loop, is told of moment 6 instead where it stands, by an exchange, and a dispatch whose wait ends at 5 calls it once, with
-/// the deadline that it was armed for. That dispatch leaves no event, by the law over each dispatch (`served`); and it cuts one, so that
-/// not every dispatch cuts none (`cuts`).
+/// A possible run, for which the premises of `once` are proved, so that its laws hold of this run: a timer for moment 5 is
+/// inserted into a new loop, is set to moment 6 instead in its slot, by an exchange, and a dispatch whose wait ends at 5 calls it
+/// once, with the deadline that it was armed for. That dispatch leaves no event, by the law over each dispatch (`served`); and it
+/// cuts one, so not every dispatch cuts none (`cuts`).
 pub fn run_that_there_is()
     ensures new { (name : Book) → IsNew (new_world name) }
     ensures quiet { AsksFresh only × RunsFresh only no_idle }
@@ -193,15 +193,15 @@ pub fn run_that_there_is()
 {}
 
 /// Small cases that the laws of `once` rule out: an event that goes to another slot than its token names, to a later
-/// registration, to a slot that is vacant or whose source is in its turn, or to none though its source stands there, be its slot used
-/// as often as there are versions; a token that names an earlier registration than before; one that
-/// was given up and is there again; an event that was gathered early; an arming in two places, or in none; one that is called for
-/// twice, early, with another deadline, or though it was cancelled, or for which another arming was gathered, of another deadline,
-/// counter or number; one that was never made and stands in the batch; one that is said to wait where `Poll` has no deadline, or no event;
-/// a registration that is told of waits twice, be another one between, or after its slot was given up; a source that
-/// has a key of an earlier use of its slot, one that keeps its key where it is registered under another, and one that arms a deadline
-/// under a token of another registration; two requests or two answers under one ticket, an answer under one whose request is carried out
-/// yet or whose answer is owed yet, and an answer that was handed out twice.
+/// registration, to a slot that is vacant or whose source is in its turn, or to none though its source is there, even if its slot
+/// was used as often as there are versions; a token that names an earlier registration than before; one that was given up and is
+/// there again; an event that was gathered early; an arming in two places, or in none; one that is called for twice, early, with
+/// another deadline, or though it was cancelled, or for which another arming was gathered, of another deadline, counter or
+/// number; one that was never made and is in the batch; one that is said to wait when `Poll` has no deadline, or no event; a
+/// registration that is told of waits twice, even with another one between, or after its slot was given up; a source that has a
+/// key of an earlier use of its slot, one that keeps its key when it is registered under another, and one that arms a deadline
+/// under a token of another registration; two requests or two answers under one ticket, an answer under one whose request is
+/// still carried out or whose answer is still owed, and an answer that was handed out twice.
 pub fn wrong_runs_are_ruled_out()
     ensures wrong_slot { ¬ GoesRight (full_slot 0 ∷ full_slot 0 ∷ []) first_token (Some 1) }
     ensures later_registration { ¬ GoesRight (full_slot 1 ∷ []) first_token (Some 0) }
@@ -259,10 +259,11 @@ pub fn wrong_runs_are_ruled_out()
         → ¬ TellsInTheOrderOfSlots v }
 {}
 
-/// Further runs that there are. A socket enters the table as its source is inserted; a dispatch gathers two events of it, of which the first one's turn asks
-/// for its registration anew, which is carried out and answered, and fails: the second event is left over, and the next dispatch cuts it
-/// first, and keeps the answer; so not every dispatch cuts none (`cuts`). And a dispatch that settles two adapters, the one in the first slot first. And a timer that is armed
-/// again by its callback, and called once for each of its armings, of which the premises of the law of armings are proved.
+/// Further possible runs. A socket enters the table when its source is inserted; a dispatch gathers two events of it; the first's
+/// turn requests its registration anew, which is carried out and answered, and fails: the second event is left over, and the next
+/// dispatch cuts it first, and keeps the answer; so not every dispatch cuts none (`cuts`). A dispatch settles two adapters, that
+/// of the first slot first. A callback arms its timer again, which is called once per arming; the premises of that law are
+/// proved.
 pub fn busy_runs_that_there_are()
     ensures run { (name : Book) → Run anything idle_never giving_poller busy_calls busy_answers
         (busy_changes name) (idle_world name) (busy_end name) }
@@ -290,15 +291,15 @@ pub fn busy_runs_that_there_are()
         → IsLedgerOf (rearmed_end name).ledger (rearmed_end name).poll }
 {}
 
-/// Small runs that the laws of `once` rule out as they stand there, each of which is wrong at its end alone, or in its second element
-/// alone: so no law speaks of a run's beginning, or of the first of some elements, alone. The second event goes wrong, or is lost; a token
-/// of the first or of the second moment names an earlier registration in the last one; what was given up in them is there again. From
-/// where nothing has happened: the second arming was gathered early, and waits in the batch or was cut from it; the second call
-/// hands out another deadline, or is one for the same arming; the second arming is in two places, in none, or isn't in `Poll`; the second
-/// slot has a source under a key of the first; the second registration is told of waits twice, or when its slot was given up; there
-/// are two answers or two requests under the second ticket, or its answer was handed out twice; and `Poll` has its second deadline before
-/// the first, which the law of sorted deadlines of `each_dispatch_serves_all` rules out. And the rules rule out a dispatch
-/// that settles the adapter of the second slot before that of the first.
+/// Small runs that the laws of `once` rule out as they are stated, each of which is wrong at its end alone, or in its second
+/// element alone: so no law speaks of a run's beginning, or of the first of some elements, alone. The second event goes wrong, or
+/// is lost; a token of the first or of the second moment names an earlier registration in the last one; what was given up in them
+/// is there again. From the start: the second arming was gathered early, and waits in the batch or was cut from it; the second
+/// call hands out another deadline, or is one for the same arming; the second arming is in two places, in none, or isn't in
+/// `Poll`; the second slot has a source under a key of the first; the second registration is told of waits twice, or when its
+/// slot was given up; there are two answers or two requests under the second ticket, or its answer was handed out twice; and
+/// `Poll` has its second deadline before the first, which the law of sorted deadlines of `each_dispatch_serves_all` rules out.
+/// And the rules rule out a dispatch that settles the adapter of the second slot before that of the first.
 pub fn runs_that_go_wrong_late()
     ensures wrong_slot { (name : Book) → ¬ EventsReachTheirSource (second_event_goes_wrong name) }
     ensures lost_event { (name : Book) → ¬ EventsReachTheirSource (second_event_is_lost name) }
@@ -340,19 +341,19 @@ pub fn runs_that_go_wrong_late()
         (with_two_adapters name) (all_traced (with_two_adapters name) (of_a_settling name 1 0)) }
 {}
 
-/// Of every dispatch that answers `Ok`, from any state, whatever poller, clock, sources, callbacks and idles answer: its watch notes
-/// one count of the places, the marks, looks, and one taking of posted keys with room for so many as there were places; and the event
-/// of each key that it took is handed out in it, to the source that its token names in its turn, which has its turn, or to none, where
-/// the token names none.
+/// Of every dispatch that returns `Ok`, from any state, whatever poller, clock, sources, callbacks and idles return: its watch
+/// notes one count of the places, the marks, looks, and one taking of posted keys with room for as many as there were places; and
+/// the event of each key that it took is handed out in it, to the source that its token names in its turn, which has its turn, or
+/// to none, if the token names none.
 ///
-/// And of every history of its board from where nothing has happened, by any number of cells and parties, in which what the loop did
-/// stands as its watch noted it: where no place was opened between that count and that taking, each key that was posted at the taking
-/// is one that it took. So of each cell that was pinged then under a key, the event is handed out in this dispatch, or its key was
-/// still owed or held; and where a cell is pinged as the dispatch ends, its key was posted since the taking, or is still owed or held.
-/// So each ping that is rung at the taking, where no turn of it is open and its key is neither owed nor held, has its source's turn in
+/// And of every history of its board from the start, by any number of cells and parties, in which what the loop did is as its
+/// watch noted it: if no place was opened between that count and that taking, each key that was posted at the taking is one that
+/// it took. So of each cell that was pinged then under a key, the event is handed out in this dispatch, or its key was still owed
+/// or held; and if a cell is pinged when the dispatch ends, its key was posted since the taking, or is still owed or held. So
+/// each ping that is rung at the taking, if no turn of it is open and its key is neither owed nor held, has its source's turn in
 /// this dispatch (`rings`).
 ///
-/// And of a run and one history up to its end: all of this of each dispatch that answered `Ok` (`run`).
+/// And of a run and one history up to its end: all of this of each dispatch that returned `Ok` (`run`).
 ///
 /// That the notes of the watch and what happens to the board are one history is what the lock's contract gives; no law says it.
 pub fn what_is_posted_is_served<D: EventDispatcher<P, C, R>, P: Poller, C: Clock, R: Wait + Drop>()
@@ -362,7 +363,7 @@ pub fn what_is_posted_is_served<D: EventDispatcher<P, C, R>, P: Poller, C: Clock
     ensures run { OverEveryRun D.means D.Idle.runs P.outside (EachServesWhatIsPosted D.means) }
 {}
 
-/// A history is a schedule of the wake machine, so that `nothing_is_lost` is of its end.
+/// A history is a schedule of the wake machine, so that `nothing_is_lost` holds of its end.
 pub fn histories_are_schedules()
     ensures schedule { (w : WakeWorld every_kind.Cell) (hs : SmallHistory)
         → IsHistory every_kind w hs
@@ -371,8 +372,8 @@ pub fn histories_are_schedules()
         → after_all every_kind w (schedule_of every_kind w hs) ≡ end_of every_kind w hs }
 {}
 
-/// Histories that there aren't, from where keys 7 and 9 are posted: a taking that leaves one out though there is room, or gives them in
-/// another order; a second taking that leaves out what the first left; a count of one place of two; a look that finds nothing.
+/// Impossible histories, after keys 7 and 9 are posted: a taking leaves one out though there is room, or takes them in another
+/// order; a second one leaves out what the first left; a count of one place of two; a look that finds nothing.
 pub fn wrong_histories_are_ruled_out()
     ensures left_out { ¬ IsHistory every_kind two_posted leaves_one_out }
     ensures backwards { ¬ IsHistory every_kind two_posted takes_backwards }
@@ -381,9 +382,9 @@ pub fn wrong_histories_are_ruled_out()
     ensures look { ¬ IsHistory every_kind two_posted sees_nothing }
 {}
 
-/// Small dispatches that the laws rule out: an event that goes to none though its source stands there; one that ends with one of two
-/// taken keys left; one whose watch notes a key that joins no batch, also with a history in which that key was rung and taken; one that
-/// ends where a cell is pinged whose key is nowhere, or takes keys where one is; and one that leaves an event which was left over before.
+/// Small dispatches that the laws rule out: an event goes to none though its source is there; it ends with one of two taken keys
+/// left; its watch notes a key that joins no batch, also with a history in which that key was rung and taken; it ends, or takes
+/// keys, when a cell is pinged whose key is nowhere; and it leaves an event which was left over before.
 pub fn unserved_keys_are_ruled_out()
     ensures to_none { (name : Book)
         → ¬ IsHandedOut anything (with_its_event name) cuts_to_none (posted_event 0) }
@@ -403,8 +404,8 @@ pub fn unserved_keys_are_ruled_out()
         → ¬ IsNotedDispatch anything (with_its_event name) (takes_nothing name) }
 {}
 
-/// A dispatch that there is and a history of its board, which meet the premises of the laws, so that the source of the key that was
-/// posted has its turn. And a history in which a place is opened between count and taking: there a posted key is left, so that the
+/// A possible dispatch and a history of its board, which meet the premises of the laws, so that the source of the key that was
+/// posted has its turn. And a history in which a place is opened between count and taking: there a posted key is left, so the
 /// premise is needed.
 pub fn dispatch_of_a_ring_that_there_is()
     ensures dispatch { (name : Book) → DispatchedBy anything idle_never quiet_poller

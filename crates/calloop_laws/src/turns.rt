@@ -1,12 +1,12 @@
-//! From what is posted to the turn that it leads to: of every dispatch that answers `Ok`, and of every history of its board from where nothing has
-//! happened, as in `what_is_posted_is_served`.
+//! From a posted key to the turn that it leads to: of every dispatch that returns `Ok`, and of every history of its board from
+//! the start, as in `what_is_posted_is_served`.
 //!
-//! Of a cell that is at rest as the dispatch takes keys: no turn of it is open, and no pass of its key is held. If the event of its key is
-//! handed out to its source, which `what_is_posted_is_served` says of a posted key, and nobody changed the registration since, the source's
-//! turn is one that the cell opens.
+//! Of a cell that is at rest when the dispatch takes keys: no turn of it is open, and no pass of its key is held. If the event of
+//! its key is handed out to its source, which `what_is_posted_is_served` says of a posted key, and nobody changed the
+//! registration since, the cell opens the source's turn.
 //!
-//! That the turn is a step of the history, and that the source's tally counts it if the cell opens it, is what the contract of the cell's
-//! `open_turn` and its lock give: a premise here, as for the notes of the watch.
+//! That the turn is a step of the history, and that the source's tally counts it if the cell opens it, is what the contract of
+//! the cell's `open_turn` and its lock give: a premise here, as for the notes of the watch.
 ghost use Rattle.std.specs.Prelude.{◌≡◌, ℕ, [], ◌∷◌, Ok, None};
 ghost use Rattle.logbook.specs.Pages.{Book};
 ghost use Rattle.calloop_poll.specs.sys.Polls.{posted_event};
@@ -35,7 +35,7 @@ use calloop::{Asking, Callback, EventDispatcher, LoopHold, PingSource, Requests}
 use calloop_poll::sys::{Clock, Poller};
 use std::sync::Wait;
 
-/// A ping that is rung as the dispatch takes keys has its callback called in this turn, once.
+/// A ping that is rung when the dispatch takes keys has its callback called in this turn, once.
 pub fn a_rung_ping_is_called<D, F, N, P: Poller, C: Clock, R: Wait + Drop>()
 where
     D: LoopHold<PingSource<R>, F, P, C, R, N>,
@@ -67,9 +67,9 @@ where
         ⟦<Requests<D, <D as EventDispatcher<P, C, R>>::Idle> as Asking>⟧.reaches D.held D.means) }
 {}
 
-/// In every history of a board: by a pop of a channel that finds no message all that had been put into it as keys were taken before was handed
-/// out, in order. That the pops of a channel's turn are steps of the history is what the contract of each pop and the lock give; no law says it.
-/// A history that meets this, and accounts that it rules out: of a message that isn't handed out, and of two in another order.
+/// In every history of a board: by a pop of a channel that finds no message, all that had been put into it when keys were taken
+/// before was handed out, in order. That a turn's pops are steps of the history is given by each pop's contract and the lock, not
+/// by a law. A history that meets this, and accounts that it rules out: a message isn't handed out; two are in another order.
 pub fn what_was_sent_is_given()
     ensures given { (born : ℕ → Born) (hs : SmallHistory)
         → IsHistory every_kind (start (λ n. new_cell (born n))) hs
@@ -83,7 +83,7 @@ pub fn what_was_sent_is_given()
     ensures backwards { ¬ IsBeginningOf (3 ∷ 4 ∷ []) (4 ∷ 3 ∷ []) }
 {}
 
-/// An executor's turn is opened: it polls at most 1,024 tasks, and its callback is called with what their futures give.
+/// An executor's turn is opened: it polls at most 1,024 tasks, and its callback is called with their futures' results.
 pub fn a_posted_executor_opens_its_turn<
     D,
     Fut: Future<R>,
@@ -107,9 +107,9 @@ where
         ⟦<Requests<D, <D as EventDispatcher<P, C, R>>::Idle> as Asking>⟧.reaches D.held D.means) }
 {}
 
-/// In every history of a board: by a pop of an executor that finds no task each task that was queued as keys were taken before was popped, in
-/// order, if nobody changed the executor's registration. Here too no law says that a turn's pops are steps of the history. A history that meets
-/// this.
+/// In every history of a board: by a pop of an executor that finds no task, each task that was queued when keys were taken before
+/// was popped, in order, if nobody changed the executor's registration. Here too no law says that a turn's pops are steps of the
+/// history. A history that meets this.
 pub fn what_was_queued_is_popped()
     ensures popped { (born : ℕ → Born) (hs : SmallHistory)
         → IsHistory every_kind (start (λ n. new_cell (born n))) hs
@@ -122,7 +122,7 @@ pub fn what_was_queued_is_popped()
         ≡ 2 ∷ []) }
 {}
 
-/// The turn of a stream's source is opened, which reads the stream if its ping was rung.
+/// A stream's source has its turn opened, which reads the stream if its ping was rung.
 pub fn a_posted_stream_opens_its_turn<D, S: Stream<R>, F, N, P: Poller, C: Clock, R: Wait + Drop>()
 where
     D: LoopHold<StreamSource<S, R>, F, P, C, R, N>,
@@ -138,9 +138,9 @@ where
         ⟦<Requests<D, <D as EventDispatcher<P, C, R>>::Idle> as Asking>⟧.reaches D.held D.means) }
 {}
 
-/// A dispatch that there is, of a loop of pings, which with the history of `dispatch_of_a_ring_that_there_is` meets the premises of
-/// `a_rung_ping_is_called`, so that the callback is called in it, and those of the laws of turns; and the same dispatch of a callback that is
-/// never called, and of a source whose turns no cell opens, which the laws rule out.
+/// A possible dispatch of a loop of pings, which with the history of `dispatch_of_a_ring_that_there_is` meets the premises of
+/// `a_rung_ping_is_called`, so that the callback is called in it, and those of the laws of turns; and the same dispatch of a
+/// callback that is never called, and of a source whose turns no cell opens, which the laws rule out.
 pub fn call_of_a_ring_that_there_is()
     ensures dispatch { (name : Book) → DispatchedBy ringing no_idles quiet_poller
         None tt (Ok tt) tt (with_a_ping name) (of_a_call name) }

@@ -436,7 +436,7 @@ one_zero e = omega arith
 is_dispatch : (name : Book) → DispatchedBy anything idle_never giving_poller None tt (Ok tt) tt (visible (behind_the_failure name)) (dispatch_of_the_rest name)
 is_dispatch name = (returns-clause-run _ name).1.1.0
 
--- the changes of the last dispatch behind its gathering
+-- the changes of the last dispatch after its gathering
 abbrev behind_it : Book → List SmallChange
 behind_it name = flatten (all_but_first (all_but_first (all_but_first (all_but_first (all_but_first (dispatch_of_the_rest name))))))
 

@@ -29,7 +29,7 @@ is_new : (name : Book) → IsNew (new_world name)
 is_new name =
     record { slots = refl; table = refl; deadlines = refl; batch = refl; passes = refl; pass = refl; places = refl; unwatched = refl; held = refl; handed = refl; ledger = refl }
 
--- the timer holds no more than before its exchange
+-- the timer holds at most what it held before its exchange
 same_hold : (counter : ℕ) → IsWithin (only.holds as_changed counter) (only.holds as_armed counter)
 same_hold counter = elim (nat_eq counter 0) as (λ b. IsWithin (if b then Standing five else Free) (if b then Standing five else Free)) [ true ↦ refl | false ↦ tt ]
 
@@ -156,7 +156,7 @@ returns-clause-served c = λ name law.
     let k = law None tt tt (before_its_dispatch name) (of_the_dispatch name) (is_dispatch name) in
     ap (λ (v : View Only (Unit {0}) (Unit {0})). v.poll.batch) (sym k.1.1) ∙ k.2
 
--- the changes of its dispatch behind its gathering
+-- the changes of its dispatch after its gathering
 abbrev behind_it : Book → List Its
 behind_it name = flatten (all_but_first (all_but_first (all_but_first (all_but_first (all_but_first (of_the_dispatch name))))))
 

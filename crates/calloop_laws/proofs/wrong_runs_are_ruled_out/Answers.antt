@@ -146,7 +146,7 @@ returns-clause-slot_in_its_turn c = λ h.
 pub returns-clause-lost_event_of_a_later_use : goal.returns-clause-lost_event_of_a_later_use
 returns-clause-lost_event_of_a_later_use c = λ h. h (full_slot versions) refl refl (tt, refl)
 
--- a call isn't its own where no arming like its one was gathered in time
+-- a call isn't its own if no arming like its one was gathered in time
 none_gathered : (l : Ledger) (a b : Arming) → Some a ≡ Some b → timely l a ≡ 0 → 1 ≤ timely l b → ⊥
 none_gathered l a b is none one =
     let same : a ≡ b = cc in

@@ -114,7 +114,7 @@ returns-clause-dispatch c = λ name. inr (
   ),
 )
 
--- where its event is handed out, by its meaning or by any
+-- at which change its event is handed out, by its meaning or by any
 abbrev handed_out : (name : Book) → IsHandedOut ringing (with_a_ping name) (of_a_call name) (posted_event 0)
 handed_out name =
     record { ahead = up_to_its_turn name; changes = its_turn; behind = behind_its_turn name; is = refl; others = []; first = refl; x = tt; next = served name; cut = cut_to_it name }
@@ -133,7 +133,7 @@ handed_out_unknown name =
       cut = (ping_after name, Ok Continue, TakePass ∷ [], tt, [], tt, refl, refl);
     }
 
--- the taking of the key, and the ring that stands then
+-- the taking of the key, and the ring that is pending then
 abbrev its_taking : (name : Book) → Taking (with_a_ping name).poll.watch.notes history_of_a_ring
 its_taking name = taking_of_a_ring name
 
