@@ -82,7 +82,7 @@ impl Notebook {
         }
     }
 
-    /// Returns the first call since `asked` was called last.
+    /// Returns the first call since `was_asked` was called last.
     pub fn first(&self) -> Option<Asked> {
         let asked = self.notes.asked.try_borrow().ok()?;
         let (_, first) = asked.first()?;
