@@ -1,7 +1,7 @@
 //! A future that is ready once a moment of the loop's clock has come.
 //!
-//! From calloop's `TimeoutFuture` in `sources/timer.rs`. Like there, it is a timer in a slot, whose token nobody else has; and
-//! here a token that is made up names nothing.
+//! From calloop's `TimeoutFuture` in `sources/timer.rs`. As there, it is a timer in a slot, and nobody else has the slot's
+//! token; here, moreover, a token that somebody makes up names nothing.
 ghost use Rattle.std.specs.Prelude.{◌≡◌, true, Some, IfOk, IfErr};
 ghost use Rattle.calloop_slots.specs.declared.error.Error.TheVariants.{OutOfMemory};
 ghost use Rattle.calloop_slots.specs.declared.wheel.Instant.{Instant};
@@ -185,18 +185,18 @@ impl<P: Poller, C, R: Wait + Drop, X, Q: Asking> Keep<TimeoutTimer<R>, P, C, R, 
     ghost placed_means = { held_itself ⟦<TimeoutTimer<R> as Dispatch<P, C, R, X, Q>>⟧.means };
 }
 
-/// A future that is ready once a moment of the loop's clock has come. It is made outside of a dispatch, and its timer leaves the loop
-/// when that moment has come, or with the loop. Its drop leaves the timer there until then.
+/// A future that is ready once a moment of the loop's clock has come. It is made outside of a dispatch, and its timer leaves
+/// the loop when that moment has come, or with the loop. If the future is dropped, its timer stays in the loop until then.
 #[derive(Drop)]
 pub struct TimeoutFuture<C: Clock, R: Wait + Drop> {
     clock: C,
-    // `None` if the moment can't be told.
+    // `None` if the moment is past 2^64 - 1 nanoseconds.
     deadline: Option<Instant>,
     parked: Arc<Parked<R>, Global>,
 }
 
 impl<C: Clock, R: Wait + Clone + Drop> TimeoutFuture<C, R> {
-    // Makes a future of this moment, and what is to wake it.
+    // Makes a future of this moment, and the callback that wakes it.
     fn unarm(
         clock: &C,
         rt: &R,
@@ -253,7 +253,7 @@ impl<C: Clock, R: Wait + Clone + Drop> TimeoutFuture<C, R> {
         Ok(future)
     }
 
-    /// Makes a future ready this long after the loop's current time. Past 2^64 - 1 nanoseconds it has no slot and stays pending.
+    /// Makes a future that is ready this long after the loop's time now. Past 2^64 - 1 ns it has no slot and stays pending.
     ///
     /// Fails as an insertion does. No timer stays then.
     pub fn from_duration<D, P, N>(
@@ -301,7 +301,7 @@ impl<C: Clock, R: Wait + Clone + Drop> Future<R> for TimeoutFuture<C, R> {
 
     ghost gives = { λ future _. HasCome (C.shows future.clock) future.deadline true };
 
-    /// Ready if the clock shows its moment or a later one. Without memory to keep the waker, it asks for another poll at once.
+    /// It is ready if the clock shows at least its moment. Without memory for the waker, it asks for another poll at once.
     fn poll(&mut self, cx: &mut Context<'_, R>) -> Poll<()>
         ensures value { IfReady result
             (λ _. HasCome (C.shows self.old.clock) self.old.deadline true) }

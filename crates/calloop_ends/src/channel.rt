@@ -26,7 +26,7 @@ pub use errors::{RecvError, SendError, TryRecvError, TrySendError};
 pub enum Event<T> {
     /// A message.
     Msg(T),
-    /// The last sender is gone, and every message was handed out. It is told once.
+    /// The last sender is gone, and every message was handed out. This event comes once.
     Closed,
 }
 
@@ -76,7 +76,7 @@ impl<T: Drop, R: Wait + Drop> Model for SyncSender<T, R> {
 
 /// The receiving end of a channel, and its source. Each message is an event.
 ///
-/// Its drop, as by the drop of the loop that it is registered with, takes its registration back.
+/// Its drop, also when the loop that it is registered with drops it, takes its registration back.
 ///
 /// In a clause it is its tally, as a `PingSource` is, and how many messages it holds at most.
 #[derive(Drop)]
@@ -108,8 +108,8 @@ impl<T: Drop, R: Wait + Drop> Sender<T, R> {
 }
 
 impl<T: Drop, R: Wait + Drop> SyncSender<T, R> {
-    /// Appends a message, and waits while there is no room. The receipt is of a message of this very channel. It takes no
-    /// memory.
+    /// Appends a message, and waits while there is no room. The receipt is of a message of this very channel. Sending takes
+    /// no memory.
     pub fn send(&self, message: T) -> Result<Receipt, SendError<T>>
         ensures ok { IfOk result (λ r. r.name ≡ self.now.name) }
         ensures err { IfErr result (λ e. (unsent e ≡ message) × IsDisconnected e) }
@@ -117,7 +117,7 @@ impl<T: Drop, R: Wait + Drop> SyncSender<T, R> {
         self.end.put_waiting(message, self.limit)
     }
 
-    /// Appends a message, if there is room. If there is none, the channel is pinged. It takes no memory.
+    /// Appends a message, if there is room. If there is no room, the channel is pinged. Sending takes no memory.
     pub fn try_send(&self, message: T) -> Result<Receipt, TrySendError<T>>
         ensures ok { IfOk result (λ r. r.name ≡ self.now.name) }
         ensures err { IfErr result (λ e. message_back e ≡ message) }
@@ -188,8 +188,8 @@ fn ends<T: Drop, R: Wait + Clone + Drop>(
     Ok((sending, Channel { end: receiving }))
 }
 
-/// Makes a sender and its channel, which holds any number of messages and isn't registered yet. They lock what they share by the
-/// runtime `rt`. In calloop its name is `channel`.
+/// Makes a sender and its channel, which holds any number of messages and isn't registered yet. Both use the runtime `rt` to
+/// lock what they share. In calloop this function is `channel`.
 ///
 /// Fails with `OutOfMemory` if memory runs out.
 pub fn make_channel<T: Drop, R: Wait + Clone + Drop>(
@@ -207,7 +207,7 @@ pub fn make_channel<T: Drop, R: Wait + Clone + Drop>(
 /// Makes a sender and its channel, which holds at most `bound` messages and isn't registered yet. The queue has room for them
 /// from the beginning.
 ///
-/// A bound of 0, which would hand over messages without a queue, fails with `NoRendezvous`; without memory it is `OutOfMemory`.
+/// A bound of 0, which would hand over messages without a queue, fails with `NoRendezvous`; no memory, with `OutOfMemory`.
 pub fn sync_channel<T: Drop, R: Wait + Clone + Drop>(
     rt: &R,
     alloc: Global,

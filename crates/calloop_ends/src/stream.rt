@@ -1,7 +1,7 @@
 //! Streams as sources: each item of a stream is an event.
 //!
-//! From calloop's `sources/stream.rs`. calloop's streams are those of the crate `futures`; these are of this module, as the
-//! futures of `futures` are.
+//! From calloop's `sources/stream.rs`. calloop's streams are those of the crate `futures`; these are this module's own, as
+//! the futures of the module `futures` here are its own.
 ghost use Rattle.std.specs.Prelude.{◌≡◌, IfOk, IfErr};
 ghost use Rattle.calloop_ends.specs.stream.Streams.{fresh_stream};
 ghost use Rattle.calloop_slots.specs.declared.error.Error.TheVariants.{OutOfMemory};
@@ -24,7 +24,7 @@ pub use reading::Stream;
 
 /// A stream as a source: each item is an event `Some(item)`, and its end is `None`, once.
 ///
-/// Its drop, as by the drop of the loop that it is registered with, takes its registration back and drops the stream.
+/// If it is dropped, as with the loop that it is registered with, its registration is taken back and the stream is dropped.
 ///
 /// In a clause it is its tally, as a `PingSource` is, and what it reads.
 #[derive(Drop)]
@@ -33,7 +33,7 @@ pub struct StreamSource<S: Stream<R>, R: Wait + Drop> {
     ping: Ping<R>,
     // None once the end was told.
     stream: Option<Readable<S, R>>,
-    // The receipt of the ring by which its last turn asked for another one.
+    // The receipt of the ring by which its last turn asked for another turn.
     own: Option<Receipt>,
 }
 
@@ -49,7 +49,7 @@ impl<S: Stream<R>, R: Wait + Drop> Model for StreamSource<S, R> {
 }
 
 impl<S: Stream<R>, R: Wait + Clone + Drop> StreamSource<S, R> {
-    /// Makes a source of the stream's items, not registered yet. The stream is polled in the first turn after its registration.
+    /// Makes an unregistered source of the stream's items. The stream is polled in the first turn after its registration.
     ///
     /// Fails with `OutOfMemory` if memory runs out, and hands the stream back.
     pub fn new(rt: &R, alloc: Global, stream: S) -> Result<StreamSource<S, R>, InsertError<S>>

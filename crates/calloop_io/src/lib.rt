@@ -35,10 +35,10 @@ pub mod state;
 pub use adapter::Adapter;
 pub use ready::{Readable, Writable};
 
-/// A socket that is polled as a future, with its end in a loop. Its drop takes the adapter out of the loop, at the beginning of the next
-/// dispatch; `LoopHandle::into_inner` does so at once, and hands the socket back.
-/// In a clause it is its tally: the name of its adapter, and what it did. Each poll adds its notes, and nothing else adds any.
-/// In a clause it is its tally: the name of its adapter, and what it did. Each poll adds its notes, and nothing else makes one.
+/// A socket that is polled as a future, with the other end of its adapter in a loop. Its drop takes the adapter out of the
+/// loop, at the beginning of the next dispatch; `LoopHandle::into_inner` does so at once, and hands the socket back.
+///
+/// In a clause it is its tally: the name of its adapter, and what it did. Each poll adds its notes, and nothing else does.
 pub struct Async<F: AsRawFd + Drop, R: Wait + Drop> {
     end: PollEnd<F, R>,
 }
@@ -58,8 +58,8 @@ impl<F: AsRawFd + Drop, R: Wait + Drop> Drop for Async<F, R> {
     }
 }
 
-/// Makes both ends of an adapter that is in no loop yet. The socket is in neither: `LoopHandle::adapt_io` begins with them. If
-/// memory runs out it fails with `OutOfMemory`, and hands the socket back.
+/// Makes both ends of an adapter that is in no loop yet. The socket is in neither end; `LoopHandle::adapt_io` calls this
+/// first. If memory runs out it fails with `OutOfMemory`, and hands the socket back.
 pub fn make_ends<F: AsRawFd + Drop, R: Wait + Clone + Drop>(
     rt: &R,
     alloc: Global,
@@ -92,19 +92,19 @@ impl<F: AsRawFd + Drop, R: Wait + Drop> Async<F, R> {
         self.end.io().take()
     }
 
-    /// Returns its registration, if in a loop: from now on the loop may take it out, until `stay` is called or the adapter
-    /// leaves.
+    /// Returns its registration, if it is in a loop: from now on the loop may take the adapter out, until `stay` is called
+    /// or the adapter leaves.
     pub fn begin_leaving(&self) -> Option<RegistrationToken> {
         self.end.begin_leaving()
     }
 
-    /// Keeps it in its loop, if it is in one, since its leaving failed.
+    /// Keeps the adapter in its loop, if it is in one, since its leaving failed.
     pub fn stay(&self) {
         self.end.stay();
     }
 
-    /// Lends the socket, to be changed. It is there until it is taken out. While the guard is held, a dispatch of the loop that
-    /// settles the adapter waits. Calloop returns a reference.
+    /// Lends the socket, to be changed: `None` if it was taken out. While the guard is held, a dispatch of the loop waits
+    /// before it settles the adapter. Calloop returns a reference.
     pub fn get_mut(&mut self) -> MutexGuard<'_, Option<F>> {
         self.end.io()
     }
@@ -173,8 +173,8 @@ impl<F: AsRawFd + Drop, R: Wait + Clone + Drop> Async<F, R> {
         }
     }
 
-    /// Reads. If the socket has nothing yet, it waits until the socket can be read. A registration error comes first, once. If
-    /// there is no memory to wait, it fails with an error of kind `Other`, and without a socket with one of kind `NotFound`.
+    /// Reads. If the socket has nothing yet, it waits until it can be read. The error of a registration is returned first,
+    /// once. If there is no memory to wait, it fails with an error of kind `Other`; if there is no socket, with `NotFound`.
     pub fn poll_read(&mut self, cx: &mut Context<'_, R>, buf: &mut [u8]) -> Poll<io::Result<usize>>
     where
         F: Read,

@@ -1,4 +1,4 @@
-//! What each end of an adapter did, as contracts alone see it. It has no bytes.
+//! Notes of what each end of an adapter did, which only contracts see. They have no bytes.
 use calloop_poll::sys::{Interest, Readiness};
 use calloop_slots::error::{Error, Result as LoopResult};
 use calloop_wake::ghosts::LentNote;
@@ -17,9 +17,9 @@ pub enum Settled {
 pub enum PollNote {
     /// A wait was answered so: by a kept refusal, or by what an event found.
     Answered(LoopResult<()>),
-    /// If a refusal was kept, it was taken.
+    /// A kept refusal was taken: this one, or `None` if none was kept.
     Refused(Option<Error>),
-    /// A poll waits for this, and the adapter is marked.
+    /// A poll waits for this, and the adapter is marked, if it is in a loop and there is memory for the mark.
     Waits(Interest),
     /// Its socket was read or written, with this answer.
     Tried(io::Result<usize>),
@@ -32,13 +32,13 @@ pub enum PollNote {
 pub enum SlotNote {
     /// An event was kept, and the waiting poll was woken.
     Heard(Readiness),
-    /// What the loop is to do with the adapter, which was marked.
+    /// It told the loop what to do with the adapter, which was marked.
     Settled(Settled),
     /// A registration failed so, and the waiting poll was woken.
     Kept(Error),
-    /// True if it is being given back.
+    /// It was asked if the adapter is being given back, and answered this.
     Asked(bool),
-    /// True if its socket was there, to be registered.
+    /// It looked for its socket, to register it: true if the socket was there.
     Reached(bool),
 }
 

@@ -1,5 +1,5 @@
-//! What the two ends of an adapter share: its state and its socket, each under a lock of its own; neither is taken within the
-//! other. Each end has its own tally besides, which notes what that end did.
+//! What the two ends of an adapter share: its state and its socket, each under a lock of its own; neither lock is taken
+//! while the other is held. Each end has its own tally besides, which notes what that end did.
 ghost use Rattle.std.specs.Prelude.{◌≡◌, [], ℕ, ℤ, true, is_some, IfOk, IfErr, IfSome, IfNone, OnErr};
 ghost use Rattle.std.specs.Io.{ReadsAtMost, WritesAtMost};
 ghost use Rattle.std.specs.Arc.{arc_value};
@@ -54,7 +54,7 @@ impl<F: AsRawFd + Drop, R: Wait + Drop> Model for PollEnd<F, R> {
     ghost invariant = { λ e. e.tally.name ≡ (arc_value e.shared).state.tag };
 }
 
-/// The part of an adapter that its end in a slot has. In a clause it is the tally.
+/// The part of an adapter that belongs to its end in a slot. In a clause it is the tally.
 #[derive(Drop)]
 pub(crate) struct SlotEnd<F: AsRawFd + Drop, R: Wait + Drop> {
     rt: R,
@@ -104,7 +104,7 @@ pub(crate) fn make_ends<F: AsRawFd + Drop, R: Wait + Clone + Drop>(
     Ok((slot, poll))
 }
 
-// Puts an adapter among the marks of its loop. If there is no memory it isn't among them.
+// Puts an adapter among the marks of its loop, if that is owed. If there is no memory it fails, and the mark is taken back.
 fn put_mark<R: Wait + Drop>(
     rt: &R,
     state: &Locked<State<R>>,
@@ -125,7 +125,7 @@ fn put_mark<R: Wait + Drop>(
 }
 
 impl<F: AsRawFd + Drop, R: Wait + Drop> PollEnd<F, R> {
-    /// Locks the socket, if it is there.
+    /// Locks the socket: the guard holds `None` if it isn't there.
     pub(crate) fn io(&self) -> MutexGuard<'_, Option<F>> {
         self.shared.io.lock(&self.rt)
     }
@@ -141,7 +141,7 @@ impl<F: AsRawFd + Drop, R: Wait + Drop> PollEnd<F, R> {
         error
     }
 
-    /// Answers a poll. If there is no answer, the poll waits, and the loop is woken.
+    /// Answers a poll. If there is no answer, the poll waits, and its loop is woken, if the adapter is in one and unmarked.
     pub(crate) fn answer_or_wait(
         &mut self,
         wanted: Interest,
@@ -167,7 +167,7 @@ impl<F: AsRawFd + Drop, R: Wait + Drop> PollEnd<F, R> {
         Ok(None)
     }
 
-    /// Lets a poll wait, and wakes the loop.
+    /// Lets a poll wait, and wakes its loop, if the adapter is in one and unmarked.
     pub(crate) fn wait(&mut self, wanted: Interest, waker: Waker<R>) -> Result<(), AllocError>
         ensures { self.new ≡ with_poll_note (Waits wanted) self.old }
     {
@@ -236,13 +236,13 @@ impl<F: AsRawFd + Drop, R: Wait + Drop> PollEnd<F, R> {
         let mut held = shared.state.lock(&rt);
         let debt = held.core().let_go(&rt, tally);
         held.unlock();
-        // If there is no memory for the mark, the adapter leaves with its loop.
+        // If there is no memory for the mark, the adapter stays until its loop is dropped.
         let _failed = put_mark(&rt, &shared.state, debt);
     }
 }
 
 impl<F: AsRawFd + Drop, R: Wait + Drop> SlotEnd<F, R> {
-    /// Registers the socket for this interest, if it is there, first or anew.
+    /// Registers the socket for this interest, if it is there: anew if the adapter has `entered`, else for the first time.
     pub(crate) fn register<P: Poller, C>(
         &mut self,
         entered: bool,
@@ -269,7 +269,7 @@ impl<F: AsRawFd + Drop, R: Wait + Drop> SlotEnd<F, R> {
         }
     }
 
-    /// Locks the socket, if it is there.
+    /// Locks the socket: the guard holds `None` if it isn't there.
     pub(crate) fn io(&self) -> MutexGuard<'_, Option<F>> {
         self.shared.io.lock(&self.rt)
     }
@@ -284,7 +284,7 @@ impl<F: AsRawFd + Drop, R: Wait + Drop> SlotEnd<F, R> {
         hub.close_mark(&self.rt);
     }
 
-    /// Enters a loop, which takes up what was asked of it until then.
+    /// Enters a loop, which takes up what was asked of the adapter until then.
     pub(crate) fn come_into(&self, hub: &SharedHub, token: RegistrationToken) {
         let home = Home {
             hub: share(&self.rt, hub),

@@ -15,8 +15,8 @@ use Rattle.calloop_loop.specs.Askings.{Asks, Runs}
 use Rattle.calloop_loop.specs.Machine.{View, Change}
 use Rattle.calloop_loop.specs.Rules.{Doing, CutTo, DispatchedBy, after_changes}
 
--- One of these steps hands out this event, which is the first of the batch then: to the source that its token names at that
--- moment, which has its turn with it, or to none, if the token names no source.
+-- One of these steps hands out this event, which is then the first of the batch. The source that the event's token names at
+-- that moment has its turn with the event; if the token names no source, the event is handed out to none.
 pub record IsHandedOut {D I P X : Type 0} (M : Meaning D P (Lent X (Asks D I))) (v : View D I P)
     (css : List (List (Change D I P))) (e : Pending) : Type 0 where
   pub ahead : List (List (Change D I P))
@@ -33,8 +33,8 @@ pub record IsHandedOut {D I P X : Type 0} (M : Meaning D P (Lent X (Asks D I))) 
 abbrev pub looked : List Bool → List Note
 looked found = map (λ b. Looked b) found
 
--- What the watch notes of a dispatch: it counts the places once, takes the marks of adapters, looks, and takes posted keys once,
--- with room for as many as there were places; the event of each key that it took is handed out, and each event left over before.
+-- What the watch notes of a dispatch: the dispatch counts the places once, takes the marks of adapters, looks, and takes
+-- posted keys once, with room for one per place. It hands out the event of each key that it took, and each left over before.
 pub record IsNotedDispatch {D I P X : Type 0} (M : Meaning D P (Lent X (Asks D I))) (v : View D I P)
     (css : List (List (Change D I P))) : Type 0 where
   pub places : ℕ
@@ -46,7 +46,7 @@ pub record IsNotedDispatch {D I P X : Type 0} (M : Meaning D P (Lent X (Asks D I
   pub handed_out : (k : ℕ) → Contains keys k → IsHandedOut M v css (posted_event k)
   pub left_over : (e : Pending) → Contains v.poll.batch e → IsHandedOut M v css e
 
--- whatever poller, sources, callbacks and idles return, this holds of each dispatch that returns `Ok`
+-- this law holds of each dispatch that returns `Ok`, whatever poller, sources, callbacks and idles return
 abbrev pub OverEachDispatch : {D I P X : Type 0} → Meaning D P (Lent X (Asks D I)) → Runs D I X → Outside P
     → (View D I P → List (List (Change D I P)) → Type 0) → Type 0
 OverEachDispatch {D} {I} {P} {X} M runs O Law =

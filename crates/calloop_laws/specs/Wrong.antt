@@ -33,13 +33,13 @@ asked_first = (ready_to_read, first_token)
 abbrev pub asked_later : Readiness × Token
 asked_later = (ready_to_read, record first_token { sub_id = 1 })
 
--- of both only the later one joins the batch
+-- only the later of the two events joins the batch
 abbrev pub KeepsTheLastAlone : Type 0
 KeepsTheLastAlone =
     SleptAs {D = Unit {0}} {I = Unit {0}} {P = Unit {0}} {X = Unit {0}} None [] (asked_first ∷ asked_later ∷ []) (Ok tt) tt
     (Appended (own_event asked_later) ∷ []) (Sleeping None [] tt)
 
--- one joins it though the source failed
+-- an event joins the batch though the source failed
 abbrev pub KeepsOfAFailure : Error → Type 0
 KeepsOfAFailure e =
     SleptAs {D = Unit {0}} {I = Unit {0}} {P = Unit {0}} {X = Unit {0}} None [] (asked_first ∷ []) (Err e) tt
@@ -49,7 +49,7 @@ KeepsOfAFailure e =
 abbrev pub second_registration : RegistrationToken
 second_registration = record { slot = 1; version = 0 }
 
--- one that does nothing
+-- the meaning of a source that does nothing
 abbrev pub silent : Meaning (Unit {0}) (Unit {0}) (Lent (Unit {0}) (Asks (Unit {0}) (Unit {0})))
 silent = still (λ s v deed t. t ≡ s)
 
@@ -63,13 +63,13 @@ any_poller =
       faults = λ p. 0;
     }
 
--- that one is told of a wait after the one of slot 0
+-- the source of slot 1 is told of a wait after the source of slot 0
 abbrev pub TellsInTheOrderOfSlots : View (Unit {0}) (Unit {0}) (Unit {0}) → Type 0
 TellsInTheOrderOfSlots v =
     Step silent (λ i x q y r. Unit {0}) any_poller v (Settling None [] tt) []
     (Sleeping None (first_registration ∷ second_registration ∷ []) tt)
 
--- a slot that is used for the first time, or again, with a source that is one of all alike
+-- a slot in its first use (`reuse` is 0) or a later one, with a source of a type whose sources are all alike
 abbrev pub full_slot : (reuse : ℕ) → Registration (Unit {0})
 full_slot reuse = record { reuse = reuse; content = Source tt }
 
@@ -81,7 +81,7 @@ given_up reuse = record { reuse = reuse; content = Vacant }
 abbrev pub first_arming : Arming
 first_arming = record { number = 0; counter = 0; deadline = record { nanos = 5 } }
 
--- gathered too early
+-- the first arming, gathered at moment 4, which is too early
 abbrev pub early : Origin
 early = Due first_arming 4
 
@@ -187,7 +187,7 @@ one_ticket = record no_asks { next = 1 }
 abbrev pub in_its_turn : Registration (Unit {0})
 in_its_turn = record { reuse = 0; content = InTurn }
 
--- a call by an arming that isn't the one that was gathered, though it has its number
+-- a call for an arming that differs from the gathered one but has the same number
 abbrev pub called_for : Arming → Ledger
 called_for other =
     record new_ledger {
@@ -197,14 +197,14 @@ called_for other =
       calls = record { deadline = other.deadline; arming = Some other } ∷ [];
     }
 
--- it has another deadline, which is before the moment of the gathering, too; or another counter
+-- that arming has another deadline, which is also before the moment of the gathering; below, it has another counter
 abbrev pub with_another_deadline : Arming
 with_another_deadline = record first_arming { deadline = record { nanos = 4 } }
 
 abbrev pub with_another_counter : Arming
 with_another_counter = record first_arming { counter = 1 }
 
--- one that was called for by an arming which has the counter and the deadline of the one that was gathered, and the number of a later one
+-- an arming with the counter and the deadline of the gathered one, and the number of a later one; below it is called for
 abbrev pub with_another_number : Arming
 with_another_number = record first_arming { number = 1 }
 
@@ -220,7 +220,7 @@ called_for_the_later_one =
       calls = record { deadline = record { nanos = 5 }; arming = Some with_another_number } ∷ [];
     }
 
--- one was made, and one more stands in the batch
+-- one arming was made and cut from the batch; another, which was never made, stands in the batch
 abbrev pub with_one_never_made : Ledger
 with_one_never_made =
     record new_ledger {
@@ -231,7 +231,7 @@ with_one_never_made =
       count = 1;
     }
 
--- one answer stands under a ticket whose request is carried out yet, or whose answer is owed yet
+-- an answer stands under a ticket whose request is still being carried out; below, under one whose answer is still owed
 abbrev pub answered_while_served : Asks (Unit {0}) (Unit {0})
 answered_while_served =
     record no_asks { next = 1; answers = record { ticket = 0; answer = Done } ∷ []; serving = Some 0 }

@@ -1,12 +1,12 @@
-//! From a posted key to the turn that it leads to: of every dispatch that returns `Ok`, and of every history of its board from
-//! the start, as in `what_is_posted_is_served`.
+//! Laws from a posted key to the turn that it leads to. They hold of every dispatch that returns `Ok` and, as in
+//! `what_is_posted_is_served`, of every history of its board from the start.
 //!
-//! Of a cell that is at rest when the dispatch takes keys: no turn of it is open, and no pass of its key is held. If the event of
-//! its key is handed out to its source, which `what_is_posted_is_served` says of a posted key, and nobody changed the
-//! registration since, the cell opens the source's turn.
+//! A cell is at rest if no turn of it is open and no pass of its key is held. If it is at rest when the dispatch takes keys,
+//! the event of its key is handed out to its source, as `what_is_posted_is_served` says of a posted key, and nobody changed
+//! the registration since, the cell opens the source's turn.
 //!
-//! That the turn is a step of the history, and that the source's tally counts it if the cell opens it, is what the contract of
-//! the cell's `open_turn` and its lock give: a premise here, as for the notes of the watch.
+//! The contract of the cell's `open_turn` and the cell's lock give that the turn is a step of the history, and that the
+//! source's tally counts the turn if the cell opens it. Here that is a premise, as for the notes of the watch.
 ghost use Rattle.std.specs.Prelude.{◌≡◌, ℕ, [], ◌∷◌, Ok, None};
 ghost use Rattle.logbook.specs.Pages.{Book};
 ghost use Rattle.calloop_poll.specs.sys.Polls.{posted_event};
@@ -35,7 +35,7 @@ use calloop::{Asking, Callback, EventDispatcher, LoopHold, PingSource, Requests}
 use calloop_poll::sys::{Clock, Poller};
 use std::sync::Wait;
 
-/// A ping that is rung when the dispatch takes keys has its callback called in this turn, once.
+/// If a ping is rung when the dispatch takes keys, its callback is called in the turn that its cell opens, once.
 pub fn a_rung_ping_is_called<D, F, N, P: Poller, C: Clock, R: Wait + Drop>()
 where
     D: LoopHold<PingSource<R>, F, P, C, R, N>,
@@ -50,8 +50,8 @@ where
         ⟦<Requests<D, <D as EventDispatcher<P, C, R>>::Idle> as Asking>⟧.reaches D.held D.means) }
 {}
 
-/// A channel's turn is opened: its callback is called with the messages that it pops, in order, up to a pop that finds none, or
-/// as many as a turn may.
+/// A channel's turn is opened: it calls the callback with the messages that it pops, in order, until a pop finds none, or
+/// until it popped as many as a turn may pop.
 pub fn a_posted_channel_opens_its_turn<D, T: Drop, F, N, P: Poller, C: Clock, R: Wait + Drop>()
 where
     D: LoopHold<Channel<T, R>, F, P, C, R, N>,
@@ -67,9 +67,9 @@ where
         ⟦<Requests<D, <D as EventDispatcher<P, C, R>>::Idle> as Asking>⟧.reaches D.held D.means) }
 {}
 
-/// In every history of a board: by a pop of a channel that finds no message, all that had been put into it when keys were taken
-/// before was handed out, in order. That a turn's pops are steps of the history is given by each pop's contract and the lock, not
-/// by a law. A history that meets this, and accounts that it rules out: a message isn't handed out; two are in another order.
+/// In every history of a board: when a pop of a channel finds no message, all that was put into it before keys were taken
+/// earlier was handed out, in order. That a turn's pops are steps of the history is given by each pop's contract and the
+/// lock, not by a law. A history meets this; ruled out are a message that isn't handed out, and two in another order.
 pub fn what_was_sent_is_given()
     ensures given { (born : ℕ → Born) (hs : SmallHistory)
         → IsHistory every_kind (start (λ n. new_cell (born n))) hs
@@ -107,9 +107,9 @@ where
         ⟦<Requests<D, <D as EventDispatcher<P, C, R>>::Idle> as Asking>⟧.reaches D.held D.means) }
 {}
 
-/// In every history of a board: by a pop of an executor that finds no task, each task that was queued when keys were taken before
-/// was popped, in order, if nobody changed the executor's registration. Here too no law says that a turn's pops are steps of the
-/// history. A history that meets this.
+/// In every history of a board: when a pop of an executor finds no task, each task that was queued when keys were taken
+/// earlier was popped, in order, if nobody changed the executor's registration. Here too no law says that a turn's pops are
+/// steps of the history. One history meets this.
 pub fn what_was_queued_is_popped()
     ensures popped { (born : ℕ → Born) (hs : SmallHistory)
         → IsHistory every_kind (start (λ n. new_cell (born n))) hs
@@ -122,7 +122,7 @@ pub fn what_was_queued_is_popped()
         ≡ 2 ∷ []) }
 {}
 
-/// A stream's source has its turn opened, which reads the stream if its ping was rung.
+/// The turn of a stream's source is opened: it reads the stream if the source's ping was rung.
 pub fn a_posted_stream_opens_its_turn<D, S: Stream<R>, F, N, P: Poller, C: Clock, R: Wait + Drop>()
 where
     D: LoopHold<StreamSource<S, R>, F, P, C, R, N>,
@@ -138,9 +138,9 @@ where
         ⟦<Requests<D, <D as EventDispatcher<P, C, R>>::Idle> as Asking>⟧.reaches D.held D.means) }
 {}
 
-/// A possible dispatch of a loop of pings, which with the history of `dispatch_of_a_ring_that_there_is` meets the premises of
-/// `a_rung_ping_is_called`, so that the callback is called in it, and those of the laws of turns; and the same dispatch of a
-/// callback that is never called, and of a source whose turns no cell opens, which the laws rule out.
+/// A possible dispatch of a loop of pings. With the history of `dispatch_of_a_ring_that_there_is` it meets the premises of
+/// `a_rung_ping_is_called`, so that it calls the callback, and those of the laws of turns. The laws rule out the same
+/// dispatch with a callback that is never called, and with a source whose turns no cell opens.
 pub fn call_of_a_ring_that_there_is()
     ensures dispatch { (name : Book) → DispatchedBy ringing no_idles quiet_poller
         None tt (Ok tt) tt (with_a_ping name) (of_a_call name) }

@@ -22,7 +22,7 @@ pub record IsInNoLoop {F R : Type 0} (adapter : Adapter F R) : Type 0 where
   pub token : adapter.token ≡ None
   pub entered : adapter.entered ≡ false
 
--- the other end of this adapter is asked to be inserted, under this ticket
+-- the loop is asked, under this ticket, to insert the loop's end of the adapter of this `Async`
 abbrev pub IsAskedToAdapt : {D F R I : Type 0} → (placed : Adapter F R → D) → PollTally → (ticket : ℕ)
     → Asks D I → Asks D I → Type 0
 IsAskedToAdapt {D} {F} {R} {I} placed made ticket old new =
@@ -30,7 +30,7 @@ IsAskedToAdapt {D} {F} {R} {I} placed made ticket old new =
     × IsAsked (AskInsert (placed adapter)) ticket old new
 
 module _ {D P C R X I : Type 0} (M : Meaning D P (Lent X (Asks D I))) (runs : Runs D I X) (O : Outside P) where
-  -- the other end of this adapter was inserted
+  -- the loop's end of the adapter of this `Async` was inserted
   abbrev pub IsAdapted : {F : Type 0} → (placed : Adapter F R → D) → PollTally → LoopHandle D P C R X I → LoopHandle D P C R X I
       → Type 0
   IsAdapted {F} placed made old new =
@@ -38,7 +38,7 @@ module _ {D P C R X I : Type 0} (M : Meaning D P (Lent X (Asks D I))) (runs : Ru
       × (adapter.end.name ≡ made.name)
       × IsCase M runs O (Insert (placed adapter)) (Inserted (Ok token)) old new
 
-  -- its insertion failed so, or there was no memory for it before, and the loop is unchanged
+  -- the insertion of that end failed with this error; or there was no memory for the end before, and the loop is unchanged
   abbrev pub IsNotAdapted : {F : Type 0} → (placed : Adapter F R → D) → Error → LoopHandle D P C R X I → LoopHandle D P C R X I
       → Type 0
   IsNotAdapted {F} placed e old new =
@@ -50,7 +50,7 @@ module _ {D P C R X I : Type 0} (M : Meaning D P (Lent X (Asks D I))) (runs : Ru
   abbrev pub IsGivenBack : LoopHandle D P C R X I → LoopHandle D P C R X I → Type 0
   IsGivenBack old new = (token : RegistrationToken) × IsCase M runs O (Release token) (Released (Ok tt)) old new
 
-  -- the adapter stayed, for this reason, or wasn't there; or it left, and its socket had been taken out before
+  -- the adapter stayed, with this error; or, with `InvalidToken`, it wasn't there, or left with its socket out already
   abbrev pub IsNotGivenBack : Error → LoopHandle D P C R X I → LoopHandle D P C R X I → Type 0
   IsNotGivenBack e old new =
       ((e ≡ InvalidToken) × (held_by new ≡ held_by old))

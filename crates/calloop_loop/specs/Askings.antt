@@ -89,7 +89,7 @@ abbrev pub asks_after : {D I : Type 0} → Asks D I → List (AskStep D I) → A
 asks_after q [] = q
 asks_after q (s ∷ ss) = asks_after (ask_after q s) ss
 
--- the tickets whose answers are handed out by these steps
+-- the tickets whose answers are handed out: under a ticket, by a step, and by steps
 abbrev pub taken_from : {D : Type 0} → ℕ → List (Answered D) → List ℕ
 taken_from ticket [] = []
 taken_from ticket (a ∷ as') = if nat_eq a.ticket ticket then ticket ∷ [] else taken_from ticket as'
@@ -107,7 +107,7 @@ pub record Reaches {D I : Type 0} (q r : Asks D I) : Type 0 where
   pub steps : List (AskStep D I)
   pub is : r ≡ asks_after q steps
 
--- whatever leads to the one leads to the other: so says each call, and each function of a user that is lent requests
+-- from wherever the one is reached, so is the other: each call says so, and each function of a user that is lent requests
 abbrev pub OnlyAsks : {D I : Type 0} → Asks D I → Asks D I → Type 0
 OnlyAsks {D} {I} q r = (p : Asks D I) → Reaches p q → Reaches p r
 
@@ -115,7 +115,7 @@ OnlyAsks {D} {I} q r = (p : Asks D I) → Reaches p q → Reaches p r
 abbrev pub IsAsked : {D I : Type 0} → Request D I → (ticket : ℕ) → Asks D I → Asks D I → Type 0
 IsAsked request ticket q r = (q.next < 2 ^ 64 - 1) × (ticket ≡ q.next) × (r ≡ ask_after q (Write request))
 
--- why no request was: every ticket was given, or there is no memory
+-- why no request was written: every ticket was given, or there is no memory
 abbrev pub CannotAsk : {D I : Type 0} → Asks D I → Error → Type 0
 CannotAsk q e = ((q.next ≡ 2 ^ 64 - 1) × (e ≡ TooManyTickets)) ⊎ ((q.next < 2 ^ 64 - 1) × (e ≡ OutOfMemory))
 
@@ -160,8 +160,8 @@ ticket_of (Some i) = i.ticket
 abbrev pub last_ticket : {I : Type 0} → List (Idling I) → ℕ
 last_ticket idles = ticket_of (slice_get idles (length idles - 1))
 
--- An answer stays if it is to what was asked for since idles were last taken up, and either since answers were last cleared, or
--- before an idle that waits still, which may ask for it. In calloop a call of the handle answers at once.
+-- An answer stays if its request was written since idles were last taken up, and either since answers were last cleared,
+-- or before the last idle that still waits, which may ask for it. In calloop a call of the handle answers at once.
 abbrev pub stays_on : {D : Type 0} → (taken_up_at cleared_at last : ℕ) → Answered D → Bool
 stays_on taken_up_at cleared_at last a =
     nat_le taken_up_at a.ticket && (nat_le cleared_at a.ticket || nat_lt a.ticket last)
@@ -177,7 +177,7 @@ abbrev pub idle_under : {I : Type 0} → Option ℕ → I → List (Idling I)
 idle_under None idle = []
 idle_under (Some ticket) idle = record { ticket = ticket; idle = idle } ∷ []
 
--- the idle of the request that is carried out, which is answered
+-- the idle of the request that is being carried out is put at the end, and the request is answered
 abbrev pub with_idle : {D I : Type 0} → I → Asks D I → Asks D I
 with_idle idle q = with_answer Done (record q { idles = q.idles ++ idle_under q.serving idle })
 
@@ -209,8 +209,8 @@ running_of (i ∷ is) = Some i.idle
 abbrev pub idle_begun : {D I : Type 0} → Asks D I → Asks D I
 idle_begun q = record q { running = all_but_first q.running }
 
--- what an idle may do: itself, the data and the requests before it runs, and these two after it; calloop's idle is a closure, of
--- which nothing is known
+-- what an idle may do: a relation of the idle, the data and the requests before it runs, and the data and the requests
+-- after it; calloop's idle is a closure, of which nothing is known
 abbrev pub Runs : (D I X : Type 0) → Type 1
 Runs D I X = I → X → Asks D I → X → Asks D I → Type 0
 

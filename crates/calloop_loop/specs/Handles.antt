@@ -20,8 +20,8 @@ use Rattle.calloop_loop.specs.Rules.{Case, Did, Leads}
 abbrev pub held_by : {D P C R X I : Type 0} → LoopHandle D P C R X I → View D I P
 held_by h = view_of h.inner.now
 
--- the token names no source of the caller's there: its slot is vacant, was used again since, or holds an entry of the loop's own;
--- calloop's handle answers so for the first two
+-- the token names no source of the caller's in this loop: its slot is vacant, was used again since, or holds an entry of
+-- the loop's own; calloop's handle refuses the token in the first two cases alone
 abbrev pub NamesNone : {D P C R X I : Type 0} → Meaning D P (Lent X (Asks D I)) → RegistrationToken
     → LoopHandle D P C R X I → Type 0
 NamesNone M token h = source_of (only (is_callers M) (content_at (held_by h).slots token)) ≡ None
@@ -46,11 +46,11 @@ slots_by h = (held_by h).slots
 abbrev pub poller_by : {D P C R X I : Type 0} → LoopHandle D P C R X I → P
 poller_by h = h.inner.now.poll.poller
 
--- what its loop holds with another poller
+-- what its loop would hold with another poller
 abbrev pub held_with_poller : {D P C R X I : Type 0} → P → LoopHandle D P C R X I → View D I P
 held_with_poller p h = view_of (with_loop_poller p h.inner.now)
 
--- what its loop holds with another source in the place of the one that the token names
+-- what its loop would hold if another source took the place of the one that the token names
 abbrev pub held_with_source : {D P C R X I : Type 0} → RegistrationToken → D → LoopHandle D P C R X I → View D I P
 held_with_source token d h = view_of (with_loop_source token d h.inner.now)
 
@@ -58,12 +58,12 @@ held_with_source token d h = view_of (with_loop_source token d h.inner.now)
 abbrev pub clock_by : {D P C R X I : Type 0} → LoopHandle D P C R X I → C
 clock_by h = h.inner.now.poll.clock
 
--- what the loop held before and what it holds after are as the machine's case of this call, with this answer, says
+-- what the loop held before and what it holds after agree with the machine's case of this call, with this answer
 abbrev pub IsCase : {D P C R X I : Type 0} → Meaning D P (Lent X (Asks D I)) → Runs D I X → Outside P
     → LoopCall D P X I → LoopAnswer D P X I → LoopHandle D P C R X I → LoopHandle D P C R X I → Type 0
 IsCase M runs O call answer old new = Did (Case M runs O call answer) (held_by old) (held_by new)
 
--- and so from every state of the machine that agrees with what the loop held
+-- the same case leads on from every state of the machine that agrees with what the loop held before
 abbrev pub LeadsAsCase : {D P C R X I : Type 0} → Meaning D P (Lent X (Asks D I)) → Runs D I X → Outside P
     → LoopCall D P X I → LoopAnswer D P X I → LoopHandle D P C R X I → LoopHandle D P C R X I → Type 0
 LeadsAsCase M runs O call answer old new = Leads (Case M runs O call answer) (held_by old) (held_by new)

@@ -163,7 +163,7 @@ use Rattle.calloop_loop.specs.Machine.{
 abbrev pub factory_of : RegistrationToken → TokenFactory
 factory_of t = record { registration = t; given = 0 }
 
--- the answers of a source to its registration and to what follows it
+-- the answer of a source to its registration, or to a later call
 abbrev pub Outcome : Type 0
 Outcome = Result (Unit {0}) Error
 
@@ -171,8 +171,8 @@ abbrev pub is_done : Outcome → Bool
 is_done (Ok u) = true
 is_done (Err e) = false
 
--- a registration, the first one or anew, under this token, with a factory that has given none; if a source is to be told of
--- waits, and isn't listed yet, it fails when there is no room for its entry, and the source is then as it was
+-- a registration, first or anew, under this token, with a factory that has given none; if the source is to be told of waits
+-- and isn't listed yet, the registration fails when there is no room for its entry, and the source is then as it was
 abbrev pub RegisteredBy : {D I P X : Type 0} → Meaning D P (Lent X (Asks D I))
     → (TokenFactory → Outcome → TokenFactory → Deed (Lent X (Asks D I))) → RegistrationToken → (listed : Bool) → PollView P
     → D → Outcome → List (PollStep P) → D → Type 0
@@ -185,7 +185,7 @@ abbrev pub listing_of : {D I P X : Type 0} → Meaning D P (Lent X (Asks D I)) �
     → HeldStep D I
 listing_of M token d answer = Listed (M.needs d && is_done answer) token
 
--- a registration that is taken back takes its entry out, even if that fails
+-- when a registration is taken back, its entry is taken out, even if taking it back fails
 abbrev pub unlisting_of : {D I : Type 0} → RegistrationToken → D → Outcome → HeldStep D I
 unlisting_of token d answer = Unlisted token
 
@@ -246,8 +246,8 @@ DisabledBy M token answer v cs =
     AskedIn (λ d a steps e. M.does d v.poll (Unregistered a) steps e) (unlisting_of token) token
     (only (is_callers M) (content_at v.slots token)) answer cs
 
--- the source leaves its slot vacant, is unregistered, of which a failure is a warning if there is memory for one, and is handed
--- back; calloop's remove hands nothing back
+-- the source leaves its slot vacant, is unregistered, and is handed back; a failure of the unregistration is a warning, if
+-- there is memory for one; calloop's remove hands nothing back
 abbrev pub RemovedIn : {D I P X : Type 0} → Meaning D P (Lent X (Asks D I)) → RegistrationToken → Content D → Option D
     → View D I P → List (Change D I P) → Type 0
 RemovedIn M token Vacant answer v cs = (answer ≡ None) × (cs ≡ [])
@@ -261,8 +261,8 @@ abbrev pub RemovedBy : {D I P X : Type 0} → Meaning D P (Lent X (Asks D I)) �
     → List (Change D I P) → Type 0
 RemovedBy M token answer v cs = RemovedIn M token (only (is_callers M) (content_at v.slots token)) answer v cs
 
--- another source takes the place of the one that a token names, which is answered: the same if it is changed in its slot, as in
--- calloop by as_source_mut. If the token names none, the other one is handed back.
+-- another source takes the place of the one that a token names, and the latter is the answer; both are the same source if
+-- it is changed in its slot, as in calloop by as_source_mut. If the token names none, the other source is handed back.
 abbrev pub ExchangedIn : {D I P : Type 0} → RegistrationToken → D → Content D → Result D D → List (Change D I P)
     → Type 0
 ExchangedIn token new Vacant answer cs = (answer ≡ Err new) × (cs ≡ [])
@@ -299,8 +299,8 @@ SettledIn {D} {I} {P} M token (Source d) v cs =
     AskedIn (TakesUp M token v.poll) (as_listed token) token (Source d) (Ok tt) cs
     ⊎ ((answer : Option D) × RemovedIn M token (Source d) answer v cs)
 
--- an adapter is given back: its registration is taken back, and it leaves its slot; if that fails, it stays as that left it;
--- calloop's kill ignores such an error, and the adapter leaves
+-- an adapter is given back: its registration is taken back, and it leaves its slot; if taking the registration back fails,
+-- the adapter stays as the failure left it; calloop's kill ignores such an error, and the adapter leaves
 abbrev pub LeftIn : {D I P X : Type 0} → Meaning D P (Lent X (Asks D I)) → RegistrationToken → Content D → View D I P
     → List (Change D I P) → Type 0
 LeftIn M token Vacant v cs = ⊥
@@ -346,12 +346,12 @@ after_wait (Err cause) given x = Leaving (Err (IoError cause)) x
 abbrev pub told_in : {D I P : Type 0} → RegistrationToken → D → List (Change D I P)
 told_in token e = Put token.slot InTurn ∷ Polls [] ∷ Put token.slot (Source e) ∷ []
 
--- events for which a source asks before a wait join the batch, each in its place
+-- events for which a source asks before a wait join the batch at its end, in order
 abbrev pub appends : {D I P : Type 0} → List (Readiness × Token) → List (Change D I P)
 appends [] = []
 appends (e ∷ es) = Appended (own_event e) ∷ appends es
 
--- before a wait: the events for which a source asks join the batch in order; its error ends the dispatch, and then none does
+-- before a wait: the events for which a source asks join the batch in order; if it fails, none joins, and the dispatch ends
 abbrev pub SleptAs : {D I P X : Type 0} → (timeout : Option ℕ) → (later : List RegistrationToken)
     → List (Readiness × Token) → Outcome → X → List (Change D I P) → Doing D X → Type 0
 SleptAs timeout later given (Ok u) x cs b = (cs ≡ appends given) × (b ≡ Sleeping timeout later x)
@@ -405,7 +405,7 @@ abbrev pub CutFrom : {D I P X : Type 0} → Meaning D P (Lent X (Asks D I)) → 
 CutFrom M [] v x cs b = (cs ≡ []) × (b ≡ Idling x)
 CutFrom M (e ∷ es) v x cs b = CutTo M e (content_at v.slots (registration_of e.token)) v x cs b
 
--- its slot is emptied, if it is still in its turn
+-- the slot of this token is emptied, if the slot is still in its turn
 abbrev pub vacate : {D I P : Type 0} → RegistrationToken → Content D → List (Change D I P)
 vacate token InTurn = Put token.slot Vacant ∷ []
 vacate token Vacant = []
@@ -429,7 +429,7 @@ OwnOr Vacant own other = other
 OwnOr (Source d) own other = other
 
 -- what a request does, and its answer: a source in its turn can't be registered; registering it anew, or taking its registration
--- back, waits for the end of its turn; so in calloop, whose enable panics there
+-- back, waits for the end of its turn; calloop does the same, but its enable panics in such a turn
 abbrev pub ServedAs : {D I P X : Type 0} → Meaning D P (Lent X (Asks D I)) → Request D I → Outcome → View D I P
     → List (Change D I P) → Type 0
 ServedAs M (AskEnable token) answer v cs =
@@ -464,7 +464,7 @@ ServedFrom M [] on next b v cs = (cs ≡ []) × (b ≡ next)
 ServedFrom {D} {I} {P} M (a ∷ as') on next b v cs =
     (ds : List (Change D I P)) × Served M a.request (after_change v (Holds Begun)) ds × (cs ≡ Holds Begun ∷ ds) × (b ≡ on)
 
--- what a source asked for itself counts only beside `Continue`, as in calloop
+-- what a source asked for about itself counts only if its turn answered `Continue`, as in calloop
 abbrev pub action_of : Result PostAction Error → (pending : PostAction) → Result PostAction Error
 action_of (Ok Continue) pending = Ok pending
 action_of (Ok Reregister) pending = Ok Reregister
@@ -511,7 +511,7 @@ RunFrom {D} {I} {P} {X} runs (i ∷ is) v x cs b =
     × runs i.idle x (idle_begun v.held.asks) x' (asks_after (idle_begun v.held.asks) asked)
     × (cs ≡ Holds IdleBegun ∷ Holds (Asking asked) ∷ []) × (b ≡ ServingIdle x')
 
--- one small step, by what is seen
+-- one small step, in terms of the loop's view
 abbrev pub Step : {D I P X : Type 0} → Meaning D P (Lent X (Asks D I)) → Runs D I X → Outside P → View D I P → Doing D X
     → List (Change D I P) → Doing D X → Type 0
 Step M runs O v (Beginning timeout x) cs b =
@@ -566,8 +566,8 @@ Once O R v [] = ⊥
 Once O R v (cs ∷ []) = R v cs × AllFit O v cs
 Once O R v (cs ∷ ds ∷ css) = ⊥
 
--- if there is no memory for the batch, nothing is changed; else a dispatch begins with its room and goes on until it ends (in
--- calloop dispatch_events, then dispatch_idles)
+-- if there is no memory for the batch, nothing is changed; else a dispatch begins with room for the batch and goes on until
+-- it ends (in calloop dispatch_events, then dispatch_idles)
 abbrev pub DispatchedBy : {D I P X : Type 0} → Meaning D P (Lent X (Asks D I)) → Runs D I X → Outside P → Option ℕ → X
     → Result (Unit {0}) Error → X → View D I P → List (List (Change D I P)) → Type 0
 DispatchedBy M runs O timeout x answer x' v css =
@@ -602,12 +602,12 @@ Run M runs O (call ∷ calls) (answer ∷ answers) (css ∷ csss) w w' =
     Case M runs O call answer (visible w) css × Run M runs O calls answers csss (all_traced w css) w'
 Run M runs O calls answers csss w w' = ⊥
 
--- what a function of the loop did, by what is seen
+-- what a function of the loop did, in terms of the loop's view
 abbrev pub Did : {D I P : Type 0} → (View D I P → List (List (Change D I P)) → Type 0) → View D I P → View D I P
     → Type 0
 Did {D} {I} {P} R old new = (css : List (List (Change D I P))) × R old css × (new ≡ after_changes old css)
 
--- from every machine state that agrees with what the loop held, the call is a case, and ends in one that agrees again
+-- from every machine state that agrees with what the loop held, the call is a case, and ends in a state that agrees again
 abbrev pub Leads : {D I P : Type 0} → (View D I P → List (List (Change D I P)) → Type 0) → View D I P → View D I P
     → Type 0
 Leads {D} {I} {P} R old new =
@@ -642,7 +642,7 @@ held_answer held f (Ok token) = Ok token
 held_answer held f (Err refused) =
     Err (record { inserted = held (record { source = refused.inserted; callback = f }); error = refused.error })
 
--- from every machine state that agrees, a list of calls is a run, which ends in one that agrees again
+-- from every machine state that agrees, a list of calls is a run, which ends in a state that agrees again
 abbrev pub RunLeads : {D I P X : Type 0} → Meaning D P (Lent X (Asks D I)) → Runs D I X → Outside P
     → List (LoopCall D P X I) → List (LoopAnswer D P X I) → View D I P → View D I P → Type 0
 RunLeads {D} {I} {P} M runs O calls answers old new =

@@ -48,7 +48,7 @@ impl<D: EventDispatcher<P, C, R>, P: Poller, C: Clock, R: Wait + Drop> EventLoop
         Ok((blocked, waker))
     }
 
-    // Runs the rounds from now on.
+    // Forgets an earlier stop, and runs the rounds of `block_on` with this flag and this waker.
     fn block_rounds<Q: Wait, Fut: Future<R>, F: FnMut(&mut D::Data)>(
         &mut self,
         rt: &Q,
@@ -81,12 +81,12 @@ impl<D: EventDispatcher<P, C, R>, P: Poller, C: Clock, R: Wait + Drop> EventLoop
         unreachable!()
     }
 
-    /// Dispatches, and calls `callback` after each dispatch, until the future is done or a signal of this loop stops it. The
-    /// future is polled before the first dispatch, and later once for each wake, or once for several wakes that came meanwhile; a
-    /// wake ends the loop's wait. Returns the future's output, or `None` if the loop is stopped. An earlier stop is forgotten.
+    /// Dispatches, and calls `callback` after each dispatch, until the future is done or a signal of this loop stops the
+    /// run. The future is polled before the first dispatch, and later once for each wake, or once for several since its last
+    /// poll; a wake ends the loop's wait. Returns the output, or `None` if the loop is stopped. Earlier stops are forgotten.
     ///
-    /// The first error of a dispatch ends the run, without another call. Running out of memory at its beginning is `OutOfMemory`,
-    /// and changes nothing.
+    /// The first error of a dispatch ends the run, without another call of `callback`. Running out of memory before the run
+    /// is `OutOfMemory`, and changes nothing.
     pub fn block_on<Q: Wait, Fut: Future<R>, F: FnMut(&mut D::Data)>(
         &mut self,
         rt: &Q,

@@ -57,7 +57,7 @@ impl<D: EventDispatcher<P, C, R>, P: Poller, C: Clock, R: Wait + Drop> EventLoop
         })
     }
 
-    /// Lends the calls that act at once.
+    /// Lends the handle, whose calls act at once.
     pub fn handle(&mut self) -> LoopHandle<'_, D, P, C, R>
         ensures same { lent_by result ≡ self.entry.ghost_name }
         ensures value { loop_by result ≡ self.old }
@@ -73,10 +73,10 @@ impl<D: EventDispatcher<P, C, R>, P: Poller, C: Clock, R: Wait + Drop> EventLoop
     /// registered anew, unregistered, or leaves its slot, as it answered. If one of the first two fails, that is an error of the
     /// turn. A source that left its slot is unregistered last; a failure of that is a warning.
     ///
-    /// What callbacks ask for in a turn is carried out in order when it ends, before that. When the batch is empty, the idles
-    /// that wait then run once each, in order, with what each asks for after it; later ones wait for the next dispatch, and after
-    /// an error none runs. Earlier warnings are cleared at the beginning, and so are answers to what was asked for before idles
-    /// were last taken up, and those from before the last dispatch for which no later idle waits.
+    /// What callbacks ask for in a turn is carried out in order when the turn ends, before its answer is acted on. When the
+    /// batch is empty, the idles that wait then run once each, in order, each followed by what it asks for; later ones wait
+    /// for the next dispatch, and after an error none runs. Earlier warnings are cleared at the beginning, and so are
+    /// answers to requests from before idles were last taken up, or from before the last dispatch if no later idle waits.
     #[inline(always)]
     pub fn dispatch<Q: Wait>(
         &mut self,
@@ -160,8 +160,8 @@ impl<D: EventDispatcher<P, C, R>, P: Poller, C: Clock, R: Wait + Drop> EventLoop
         self.go_on(token, answer, failure)
     }
 
-    // What follows a turn that a source had in its slot. It stays there if nothing was asked for and nothing is to be done with
-    // it.
+    // Ends a turn that a source had in its slot. The source stays there if nothing was asked for and nothing is to be done
+    // with it.
     fn go_on(
         &mut self,
         token: RegistrationToken,
@@ -186,8 +186,8 @@ impl<D: EventDispatcher<P, C, R>, P: Poller, C: Clock, R: Wait + Drop> EventLoop
         self.take_out_and_end(token, answer, failure)
     }
 
-    // Carries out what was asked for, and takes the post action, while the source is out of its slot. Kept out of line, so that
-    // the turns of sources that stay need no room for one.
+    // Carries out what was asked for, and takes the post action, while the source is out of its slot. Kept out of line, so
+    // that a turn whose source stays needs no room for a source.
     #[inline(never)]
     fn take_out_and_end(
         &mut self,
@@ -212,7 +212,7 @@ impl<D: EventDispatcher<P, C, R>, P: Poller, C: Clock, R: Wait + Drop> EventLoop
         self.end_turn(token, source, answer, failure)
     }
 
-    // Ends the turn of a source: takes its post action, and puts it back into its slot, if that is still in its turn.
+    // Ends the turn of a source: takes its post action, and puts the source back, if its slot is still in its turn.
     fn end_turn(
         &mut self,
         token: RegistrationToken,
@@ -234,8 +234,8 @@ impl<D: EventDispatcher<P, C, R>, P: Poller, C: Clock, R: Wait + Drop> EventLoop
         }
     }
 
-    // Puts a source back into its slot. If its slot isn't in its turn any more, the source is unregistered and dropped; a failure
-    // of that is a warning. It is handed back if it asked for its own removal.
+    // Puts a source back into its slot. If its slot isn't in its turn any more, the source is unregistered, and handed back
+    // if it asked for its own removal, else dropped; a failure of the unregistration is a warning.
     fn give_back(&mut self, token: RegistrationToken, source: D)
         ensures machine { (told : Outcome) (x : D.Data)
             → Goes D.means D.Idle.runs P.outside (Returning token source told x) (after_turn told x)
@@ -322,7 +322,7 @@ impl<D: EventDispatcher<P, C, R>, P: Poller, C: Clock, R: Wait + Drop> EventLoop
     }
 }
 
-// The action at the end of a turn: what a source asked for itself counts only beside `Continue`.
+// The action at the end of a turn: what a source asked for about itself counts only if its turn answered `Continue`.
 fn action_of(answer: Result<PostAction, Failed>, pending: PostAction) -> Result<PostAction, Failed>
     ensures { (failure : Error)
         → with_error result failure ≡ action_of (with_error answer failure) pending }

@@ -1,4 +1,4 @@
-//! Sources that need it are told of each wait: before it, and which events it brought.
+//! Each source that needs it is told of each wait before the wait, and after it, which of its events the wait brought.
 ghost use Rattle.std.specs.Prelude.{◌≡◌, ℕ, ◌+◌, ◌≤◌, ◌^◌, [], ◌∷◌, List, Option, OnOk, IfSome, None, length, vec_len};
 ghost use Rattle.calloop_slots.specs.declared.token.RegistrationToken.{RegistrationToken};
 ghost use Rattle.calloop_poll.specs.sys.Polls.{IsReady};
@@ -25,7 +25,7 @@ impl<D: EventDispatcher<P, C, R>, P: Poller, C: Clock, R: Wait + Drop> EventLoop
         }
     }
 
-    // The number of events for which the sources that are told may ask together, if it fits.
+    // The number of events for which all sources that are told may ask together, or `None` if it doesn't fit in 64 bits.
     pub(super) fn limits(&self) -> Option<usize>
         ensures sum { IfSome result (λ sum. sum
             ≡ all_limits D.means self.now.sources self.now.lifecycle.tokens.items) }
@@ -44,7 +44,7 @@ impl<D: EventDispatcher<P, C, R>, P: Poller, C: Clock, R: Wait + Drop> EventLoop
         Some(sum)
     }
 
-    // Tells the source of this registration, and puts the events that it asks for into the batch.
+    // Tells the source of this registration of the wait, and puts the events for which it asks into the batch.
     fn tell_one_of_wait(
         &mut self,
         token: RegistrationToken,
@@ -78,7 +78,7 @@ impl<D: EventDispatcher<P, C, R>, P: Poller, C: Clock, R: Wait + Drop> EventLoop
         Ok(())
     }
 
-    // Tells the sources in the order of their entry. An error ends it.
+    // Tells the sources of the wait, in the order of their entry. The first error ends the telling.
     pub(super) fn tell_of_wait(&mut self, failure: &mut Error) -> Result<(), Failed>
         requires ready { IsReady
             (all_limits D.means self.old.sources self.old.lifecycle.tokens.items) self.old.poll }
@@ -99,7 +99,7 @@ impl<D: EventDispatcher<P, C, R>, P: Poller, C: Clock, R: Wait + Drop> EventLoop
         Ok(())
     }
 
-    // Tells the source of this registration which events of it were gathered.
+    // Tells the source of this registration which of the registration's events were gathered.
     fn tell_one_of_events(&mut self, from: usize, token: RegistrationToken)
         ensures machine { (later : List RegistrationToken) (x : D.Data)
             → Goes D.means D.Idle.runs P.outside (Noticing from (token ∷ later) x)
@@ -113,7 +113,7 @@ impl<D: EventDispatcher<P, C, R>, P: Poller, C: Clock, R: Wait + Drop> EventLoop
         let _none = self.sources.end_turn(token, source);
     }
 
-    // Tells the sources in the order of their entry.
+    // Tells the sources, in the order of their entry, which of their events were gathered.
     pub(super) fn tell_of_events(&mut self, from: usize)
         ensures machine { (x : D.Data)
             → Goes D.means D.Idle.runs P.outside (Noticing from self.old.lifecycle.tokens.items x)

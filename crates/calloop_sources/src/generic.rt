@@ -64,14 +64,14 @@ impl<T> Deref for NoIoDrop<T> {
 /// A value that has a descriptor, as a source: a socket, a pipe, a child's output, a terminal. Its callback gets the readiness
 /// found, and that value. `E` is the error of the callback; a fault of the poller in this source's turn becomes an `E`.
 ///
-/// Its drop calls no poller: if it is dropped while it is registered, its key stays in the loop's table. calloop's takes its
-/// descriptor out.
+/// Its drop calls no poller: if it is dropped while it is registered, its key stays in the loop's table. In calloop the
+/// drop takes its descriptor out.
 #[derive(Drop)]
 pub struct Generic<F, E = io::Error> {
     io: NoIoDrop<F>,
-    /// The interest that it is registered for, from its next registration on; `Level` takes it up after each call.
+    /// The interest for its next registration; `Level` takes it up after each callback that succeeds.
     pub interest: Interest,
-    /// How often it is told of that.
+    /// How often the source is told of what `interest` names.
     pub mode: Mode,
     token: Option<Token>,
     // True if an event came under `OneShot` since it was registered.
@@ -98,7 +98,7 @@ impl<F, E> Generic<F, E> {
         }
     }
 
-    /// Returns the socket if it isn't registered, else this very source.
+    /// Returns the socket if the source isn't registered, else this very source.
     pub fn unwrap(self) -> Result<F, Generic<F, E>>
         ensures ok { IfOk result (λ io. (io ≡ self.io.io) × (self.token ≡ None)) }
         ensures err { IfErr result (λ source. (source ≡ self) × IsSome self.token) }
@@ -130,7 +130,7 @@ impl<F, E> Generic<F, E> {
 }
 
 impl<F> Generic<F, io::Error> {
-    /// Makes a source that isn't registered yet, with a callback that fails with the errors of system calls.
+    /// Makes a source that isn't registered yet, and whose callback's error is `io::Error`, the error of system calls.
     pub fn new(io: F, interest: Interest, mode: Mode) -> Generic<F, io::Error>
         ensures io { result.io.io ≡ io }
         ensures interest { result.interest ≡ interest }
@@ -156,7 +156,7 @@ impl<F, E> Generic<F, E> {
         }
     }
 
-    // True if no further event is for the callback, once it got this one.
+    // The value of `heard` after an event: true under `OneShot`, else unchanged.
     fn is_heard(&self) -> bool
         ensures { result ≡ heard_in self.now.mode self.now.heard }
     {
@@ -211,7 +211,7 @@ where
 
     /// Calls back with the readiness found if the token is the source's; under `OneShot` for one event alone. After a callback
     /// that succeeded, `Level` asks the poller to tell of the socket again, with the interest as it is now, and if that fails, so
-    /// does the turn. The OS poller needs a system call for it only if the interest is another.
+    /// does the turn. The OS poller needs a system call for that only if the interest differs from the registered one.
     fn process_events<K, X, Q>(
         &mut self,
         readiness: Readiness,

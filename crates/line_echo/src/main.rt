@@ -1,9 +1,9 @@
 //! A server that gives back each line it reads, over the poller and the clock of the machine: it listens, lets clients in as they come,
 //! and drops those that are silent for long.
 //!
-//! With an address, as 127.0.0.1:7000, it serves for good, and looks for silent clients every fifteen seconds, or after so many
-//! milliseconds as a second word says. With none it serves two clients of its own on a free port: one sends lines, the other one is
-//! silent; then it prints what they saw, and ends. If no descriptor is left it says so once, and stops listening until a client leaves.
+//! With an address, as 127.0.0.1:7000, it serves for good, and looks for silent clients every 15 seconds, or every `n` ms
+//! with a second word `n`. Without words it serves two clients of its own on a free port: one sends lines, one is silent;
+//! it prints what they saw, and ends. If no descriptor is left it says so once, and stops listening until a client leaves.
 #![tactic(auto)]
 
 use anyhow::Result;
@@ -48,11 +48,11 @@ struct Plan {
     patience: Duration,
     /// How often it looks for such clients.
     each: Duration,
-    /// It ends once so many clients have left, or never.
+    /// It ends once so many clients have left; if `None`, it never ends.
     clients: Option<usize>,
 }
 
-// Serves at this listener as the plan says. This alone knows of which types the loop is.
+// Serves at this listener as the plan says. Only this function knows the types of which the loop is made.
 fn serve<R>(rt: &R, alloc: Global, listener: TcpListener, plan: Plan) -> Result<()>
 where
     R: Runtime + Net + Wait + Clone + Drop,
@@ -92,7 +92,7 @@ where
     unreachable!()
 }
 
-// Says why no client can be let in, if so.
+// If no client can be let in, says why.
 fn say_refusal<R: Runtime>(rt: &R, refusal: Option<&io::Error>) {
     if let Some(cause) = refusal {
         let _unsaid = eprintln!(rt; "line_echo: {cause}; it listens again once a client leaves");

@@ -1,5 +1,5 @@
--- Proofs that a line of more bytes than `longest` has no command, so that it can't be carried out. They define nothing; the impls
--- of runners cite them, so they stand here.
+-- Proofs that a line of more than `longest` bytes has no command, so that it can't be carried out. They define nothing; they
+-- stand here since the impls of runners cite them.
 use Rattle.std.proofs.Common.{◌≡◌, ℕ, zero, suc, ◌+◌, ◌-◌, ◌*◌, ◌^◌, ◌≤◌, ◌<◌, Bool, true, false, ◌&&◌, List, [], ◌∷◌, length, take, drop, Option, Some, None, ⊎_elim, nat_lt, nat_le, nat_eq, ◌==◌, cond, refl, sym, ap, subst, ◌∙◌, arith, length-take, length-drop, ne_eqb, true≢false}
 use Rattle.std.proofs.Math.Nat.{pow-le-pow_right, pow-suc}
 use Rattle.std.proofs.lemmas.Bool.{cases_lt}
@@ -16,7 +16,7 @@ abbrev IsThere : {A : Type 0} → Option A → Type 0
 IsThere None = ⊥
 IsThere (Some a) = Unit {0}
 
--- If a test yields a value, one of its branches does.
+-- If a `cond` yields a value, so does the branch that its test chooses.
 
 by_test : {A N : Type 0} (b : Bool) (o p : Option A) → (b ≡ true → IsThere o → N) → (b ≡ false → IsThere p → N) → IsThere (cond b o p) → N
 by_test true o p f g h = f refl h
@@ -154,6 +154,6 @@ no_command line long = nothing (command_of line) (λ some. omega (arith, command
 pub none_carried : (s : State) (line : List ℕ) → longest < length line → trace_step s line None
 none_carried s line long = subst (λ command. Carried s command None) (sym (no_command line long)) refl
 
--- nor is it a shorter word
+-- a longer line isn't a word of at most `longest` bytes either
 pub no_longer_word : {A : Type 0} (line word : List ℕ) (o : Option A) → nat_le (length word) longest ≡ true → longest < length line → None ≡ cond (pointwise nat_eq line word) o None
 no_longer_word line word o short long = ap (λ b. cond b o None) (sym (unequal nat_eq line word (λ same. grind (arith, same, short, long))))

@@ -45,8 +45,8 @@ Does {D} {P} {T} outside m s v deed t w =
 abbrev pub fresh_factory : RegistrationToken → TokenFactory
 fresh_factory t = record { registration = t; given = 0 }
 
--- what the loop does for an adapter: its interest is registered anew, and the adapter itself keeps the error if that fails; or
--- it was dropped, and its registration is taken back, with this result
+-- what the loop does for an adapter: its interest is registered anew, and the adapter itself keeps the error if that fails;
+-- or its `Async` was dropped, and its registration is taken back, with this result
 abbrev pub SettledAs : {D P T : Type 0} → Outside P → Meaning D P T → RegistrationToken
     → (left : Option (Result (Unit {0}) Error)) → D → PollView P → D → PollView P → Type 0
 SettledAs outside m token None s v t w =
@@ -67,8 +67,8 @@ KeepsCounters {D} {P} {T} m =
     → m.fits s → IsBelow v.deadlines.next (m.holds s) → m.does s v deed steps t
     → m.fits t × Keeps (m.holds s) v.deadlines.next steps (m.holds t)
 
--- it is at home in this registration: each key that it is registered under is one of it; without a key it is at home
--- anywhere
+-- it is at home in this registration: each key that it is registered under is a key of this registration; without a key it
+-- is at home anywhere
 abbrev pub IsAtHome : {D P T : Type 0} → Meaning D P T → RegistrationToken → D → Type 0
 IsAtHome m registration s = (key : ℕ) → m.keys s key → IsKeyOf registration key
 
@@ -83,8 +83,8 @@ BeginsIn at_home registration (Turned readiness token turn) = at_home
 BeginsIn at_home registration (Slept given answer) = at_home
 BeginsIn at_home registration (Noticed events) = at_home
 
--- each deed that begins in a registration leaves it at home there, and if it was at home it acts under keys of that
--- registration alone; if it comes from another registration it may take back what it had there as it is registered
+-- each deed that begins in a registration leaves the source at home there; one that was at home acts under keys of that
+-- registration alone, and one that comes from another registration may take back what it had there when it is registered
 abbrev pub KeepsHome : {D P T : Type 0} → Meaning D P T → Type 0
 KeepsHome {D} {P} {T} m =
     (registration : RegistrationToken) (s t : D) (v : PollView P) (deed : Deed T) (steps : List (PollStep P))
@@ -132,7 +132,7 @@ pub record IsTurned
   pub went : Went may reaches before lent.before lent.asked_before inner.calls after lent.after lent.asked_after
   pub told : Becomes becomes inner.answer lent.answer
 
--- a source with its callback, which is called in turns alone
+-- a source with its callback; only a turn of the source calls the callback
 abbrev pub dispatcher_means : {S F P E M T Cause X Q : Type 0}
     → Meaning S P (Heard E M T Cause) → Calling F E M T X Q → (Q → Q → Type 0) → (Cause → Error → Type 0)
     → Dispatcher S F → PollView P → Deed (Lent X Q) → List (PollStep P) → Dispatcher S F → Type 0
@@ -228,7 +228,7 @@ still does =
       does = λ s v deed steps t. (steps ≡ []) × does s v deed t × IsWithin 0 deed;
     }
 
--- the same, but told of waits, before which it may ask for so many events
+-- the same, but told of waits, before each of which it may ask for at most so many events
 abbrev pub attentive_to : {D P T : Type 0} → (limit : ℕ) → (D → PollView P → Deed T → D → Type 0) → Meaning D P T
 attentive_to limit does =
     record (still does) {
@@ -241,7 +241,7 @@ attentive_to limit does =
 abbrev pub attentive : {D P T : Type 0} → (D → PollView P → Deed T → D → Type 0) → Meaning D P T
 attentive does = attentive_to 1 does
 
--- a held part keeps its meaning: the whole goes exactly as the part goes, and then holds the part again
+-- a held part keeps its meaning: the whole does exactly what the part does, and then holds the part again
 pub record IsHeld {A D P T : Type 0} (held : A → D) (m : Meaning A P T) (n : Meaning D P T) : Type 0 where
   pub holds : (s : A) → n.holds (held s) ≡ m.holds s
   pub keys : (s : A) (key : ℕ) → n.keys (held s) key ↔ m.keys s key
