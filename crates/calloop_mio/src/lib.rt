@@ -263,6 +263,12 @@ impl<C: Clock> Poller for MioPoller<C> {
         self.modify(fd, key, watched)
     }
 
+    /// True: epoll tells of such a descriptor in each wait.
+    #[inline(always)]
+    fn keeps_levels() -> bool {
+        true
+    }
+
     fn delete(&mut self, fd: RawFd) -> io::Result<()> {
         self.levels.clear(fd);
         let answer = self.poll.registry().deregister(&mut SourceFd(&fd));

@@ -11,8 +11,8 @@ use Rattle.std.specs.List.Sorted.{IsStrictlySortedBy}
 use Rattle.calloop_slots.specs.declared.error.Error.{Error}
 use Rattle.calloop_slots.specs.declared.error.Error.TheVariants.{IoError, OutOfMemory}
 use Rattle.calloop_poll.specs.declared.sys.Watched.{Watched}
-use Rattle.calloop_poll.specs.sys.Pollers.{Outside, Sockets, PollerCall}
-use Rattle.calloop_poll.specs.sys.Tables.{Table, Edit, unless_in, cannot, grows, call_of, after_edit, Called, CalledFor, with_key, without_key, watched_at}
+use Rattle.calloop_poll.specs.sys.Pollers.{Outside, Sockets, PollerCall, Add, Modify, asks}
+use Rattle.calloop_poll.specs.sys.Tables.{Table, Edit, call_for, deleted_if, unless_in, cannot, grows, call_of, after_edit, Called, CalledFor, with_key, without_key, watched_at}
 use Rattle.calloop_poll.specs.sys.Polls.{PollView, IsOfKind, Socket, Fault, with_new_poller}
 use Rattle.calloop_poll.specs.sys.SocketCalls.{DidEdit, IsFaulted, TriedUnless}
 
@@ -75,3 +75,19 @@ entered_again k w (e ∷ es) sorted is =
       | Equal ↦ λ n is. (let same : e.1 ≡ w = cc in ap (λ x. (e.0, x) ∷ es) (sym same))
       | Greater ↦ λ n is. ap (λ l. e ∷ l) (entered_again k w es sorted.1 n)
     ] is refl
+
+-- a poller that keeps levels does nothing for a socket that is registered just so
+module _ {P : Type 0} (O : Outside P) (sockets : Sockets P) (p : P) (fd : ℤ) (key : ℕ) (w : Watched) where
+  pub kept_for : (asks w.interest ≡ true → sockets p fd (Modify key w) (Ok tt) p) → CalledFor sockets p fd (call_for (asks w.interest) key w) (Ok tt) p
+  kept_for h =
+      elim (asks w.interest) as (λ b. asks w.interest ≡ b → CalledFor sockets p fd (if b then Some (if b then Modify key w else Add key w) else deleted_if b) (Ok tt) p) [
+        | true ↦ λ e. h e
+        | false ↦ λ e. (refl, refl)
+      ] refl
+
+  pub kept : (asks w.interest ≡ true → O.calls p (Modify key w) (Ok tt) p) → Called O p (call_for (asks w.interest) key w) (Ok tt) p
+  kept h =
+      elim (asks w.interest) as (λ b. asks w.interest ≡ b → Called O p (if b then Some (if b then Modify key w else Add key w) else deleted_if b) (Ok tt) p) [
+        | true ↦ λ e. (h e, grind (arith))
+        | false ↦ λ e. (refl, refl)
+      ] refl

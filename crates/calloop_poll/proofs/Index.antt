@@ -61,3 +61,11 @@ index-without k index t h q v at =
 -- what the index has is in the table
 pub index-tells : (index : List (Option Indexed)) (t : Table) → IsIndexOf index t → (k : ℕ) (e : Indexed) → e.key ≡ k → indexed_at (slot_of_key k) index ≡ Some e → watched_at k t ≡ Some e.watched
 index-tells index t h k e is at = h k e.watched (at ∙ ap (λ (j : ℕ). Some (record { key = j; watched = e.watched })) is)
+
+-- an entry taken from the index alone
+pub index-doubt : (k : ℕ) (index : List (Option Indexed)) (t : Table) → IsIndexOf index t → IsIndexOf (set index (slot_of_key k) None) t
+index-doubt k index t h q v at =
+    elim (nat_eq (slot_of_key q) (slot_of_key k)) as (λ b. nat_eq (slot_of_key q) (slot_of_key k) ≡ b → watched_at q t ≡ Some v) [
+      | true ↦ λ e. (let here : None ≡ Some (the q v) = set_gives index (slot_of_key k) None (the q v) (subst (λ (s : ℕ). indexed_at s (set index (slot_of_key k) None) ≡ Some (the q v)) (eqb-true (slot_of_key q) (slot_of_key k) e) at) in cc)
+      | false ↦ λ e. h q v (sym (set_keeps index (slot_of_key k) (slot_of_key q) None e) ∙ at)
+    ] refl

@@ -120,11 +120,12 @@ pub trait Clock: Clone + Drop {
 
 /// Waits for events, and tells the moment. The loop is proved for every result that a poller may return.
 pub trait Poller: Drop {
-    ghost use Rattle.std.specs.Prelude.{◌≡◌, ℕ, ◌+◌, ◌≤◌, ◌++◌, List, length, vec_len, vec_capacity};
-    ghost use Rattle.std.specs.Prelude.{IfErr};
+    ghost use Rattle.std.specs.Prelude.{◌≡◌, ℕ, ℤ, ◌+◌, ◌≤◌, ◌++◌, List, length, vec_len, vec_capacity};
+    ghost use Rattle.std.specs.Prelude.{IfErr, Ok, true};
     ghost use Rattle.calloop_slots.specs.declared.error.Error.TheVariants.{OutOfMemory};
-    ghost use Rattle.calloop_poll.specs.sys.Pollers.{Outside, Sockets, Add, Modify, Delete, IsCounted, faults_of, nanos_of, events_per_wait};
+    ghost use Rattle.calloop_poll.specs.sys.Pollers.{Outside, Sockets, Add, Modify, Delete, IsCounted, asks, faults_of, nanos_of, events_per_wait};
     ghost use Rattle.calloop_poll.specs.declared.sys.Readiness.{Readiness};
+    ghost use Rattle.calloop_poll.specs.declared.sys.Watched.{Watched};
 
     /// What the poller's calls may do.
     ghost outside: { Outside Self };
@@ -155,6 +156,18 @@ pub trait Poller: Drop {
         ensures faults { outside.faults self.new ≡ outside.faults self.old + faults_of result }
     {
         self.modify(fd, key, watched)
+    }
+
+    /// True if a descriptor that was added, or modified last, under `Mode::Level` needs no further call: each wait tells of it
+    /// while it is ready. The loop then asks again, behind a callback, only if the key, the interest or the mode changed. By
+    /// default false.
+    fn keeps_levels() -> bool
+        ensures sockets { result ≡ true → (p : Self) (fd : ℤ) (key : ℕ) (watched : Watched)
+            → asks watched.interest ≡ true → sockets p fd (Modify key watched) (Ok tt) p }
+        ensures calls { result ≡ true → (p : Self) (key : ℕ) (watched : Watched)
+            → asks watched.interest ≡ true → outside.calls p (Modify key watched) (Ok tt) p }
+    {
+        false
     }
 
     /// From now on no wait returns an event of this descriptor. An `Err` is a fault, and is counted.

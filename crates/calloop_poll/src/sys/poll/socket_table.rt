@@ -1,5 +1,5 @@
 //! What is waited for under each key.
-ghost use Rattle.std.specs.Prelude.{◌≡◌, [], ℕ, Some, OnOk, OnErr, slice_set};
+ghost use Rattle.std.specs.Prelude.{◌≡◌, [], ℕ, Some, OnOk, OnErr, slice_set, true};
 ghost use Rattle.calloop_poll.specs.sys.Tables.{watched_at, is_in, with_key, without_key, indexed_at};
 ghost use Rattle.calloop_slots.specs.Tokens.{slot_of_key};
 
@@ -73,6 +73,28 @@ impl SocketTable {
             Some(Some(indexed)) if indexed.key == key => Some(indexed.watched),
             _ => self.by_key.get(&key).copied(),
         }
+    }
+
+    /// True if exactly this is known to be waited for under the key, by a look at the index alone.
+    #[inline(always)]
+    pub fn has(&self, key: u64, watched: Watched) -> bool
+        ensures there { result ≡ true → watched_at key self.now ≡ Some watched }
+        ensures same { result ≡ true → with_key key watched self.now ≡ self.now }
+    {
+        // Its contract says that the keys ascend.
+        let _ = self.by_key.len();
+        match self.by_slot.get(slot_of_key(key)) {
+            Some(Some(indexed)) => indexed.key == key && indexed.watched == watched,
+            _ => false,
+        }
+    }
+
+    /// Takes the key out of the index, so that `has` is false until its entry is next replaced by another. The table is unchanged.
+    pub fn doubt(&mut self, key: u64)
+        ensures { self.new ≡ self.old }
+    {
+        let slot = slot_of_key(key);
+        put(&mut self.by_slot, slot, None);
     }
 
     /// True if anything is waited for under this key.

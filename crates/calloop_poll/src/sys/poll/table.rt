@@ -116,7 +116,10 @@ impl<P: Poller, C, R: Wait + Drop> Poll<P, C, R> {
                 self.table.replace(same, stood, watched);
                 Ok(())
             }
-            Err(fault) => Err(fault),
+            Err(fault) => {
+                self.table.doubt(same);
+                Err(fault)
+            }
         }
     }
 
@@ -188,8 +191,9 @@ impl<P: Poller, C, R: Wait + Drop> Poll<P, C, R> {
     }
 
     /// As `reregister`, after a callback of the source, for the token that the socket was registered with. Under `Mode::Level`
-    /// the poller may trust what it knows of the descriptor, and make no system call (`Poller::rearm`). Fails only with a fault:
-    /// of kind `NotFound` if the key isn't in the table, or the poller's. Each leaves the table unchanged.
+    /// the poller may trust what it knows of the descriptor, and make no system call (`Poller::rearm`); it isn't even asked if
+    /// the socket is registered just so and the poller keeps levels (`Poller::keeps_levels`). Fails only with a fault: of kind
+    /// `NotFound` if the key isn't in the table, or the poller's. Each leaves the table unchanged.
     #[inline(always)]
     pub fn rearm(
         &mut self,
@@ -204,16 +208,22 @@ impl<P: Poller, C, R: Wait + Drop> Poll<P, C, R> {
         ensures ready { (more : ℕ) → IsReady more self.old → IsReady more self.new }
     {
         let key = token.key();
+        let watched = Watched { interest, mode };
+        if mode == Mode::Level && P::keeps_levels() && self.table.has(key, watched) {
+            return Ok(());
+        }
         let Some(stood) = self.table.get(key) else {
             return Err(io::Error::from(io::ErrorKind::NotFound));
         };
-        let watched = Watched { interest, mode };
         match rearm_in(&mut self.poller, fd, stood.interest.asks(), key, watched) {
             Ok(()) => {
                 self.table.replace(key, stood, watched);
                 Ok(())
             }
-            Err(cause) => Err(cause),
+            Err(cause) => {
+                self.table.doubt(key);
+                Err(cause)
+            }
         }
     }
 

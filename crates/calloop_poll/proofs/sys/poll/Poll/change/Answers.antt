@@ -30,4 +30,4 @@ returns-in-Err-clause-edit g c =
     faulted g.P.Poller.outside g.P.Poller.sockets (poll_view c.args.self.now) (Change c.args.before c.args.token c.args.watched) c.args.fd c.in-Err.fault c.call_poller.new.poller _ can
     (subst (λ k. CalledFor g.P.Poller.sockets c.args.self.now.poller c.args.fd k (Err c.in-Err.fault) c.call_poller.new.poller) call told)
     (subst (λ k. Called g.P.Poller.outside c.args.self.now.poller k (Err c.in-Err.fault) c.call_poller.new.poller) call c.in-Err.ensures.calls)
-    refl
+    (ap (λ t. record (poll_view c.args.self.now) { poller = c.call_poller.new.poller; table = t }) c.doubt.ensures)
