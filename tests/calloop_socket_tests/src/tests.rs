@@ -3,6 +3,7 @@ use std::io::ErrorKind;
 
 mod crowds;
 mod desk;
+mod keeping;
 mod modes;
 mod peers;
 mod pipes;
