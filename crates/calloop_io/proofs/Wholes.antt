@@ -1,10 +1,11 @@
 -- What several polls did, from what each of them did.
 use Rattle.std.proofs.Common.{◌≡◌, ◌≢◌, ◌⊎◌, ◌++◌, ◌∷◌, ◌+◌, ◌∙◌, [], ℕ, List, Option, Some, None, Result, Ok, Err, refl, sym, ap, subst, inl, inr, arith, length, take, drop, append_assoc, ◌≤◌}
-use Rattle.std.specs.Prelude.{IsSomeAnd, sum_by, All}
+use Rattle.std.specs.Prelude.{IsSomeAnd, IfSome, IfNone, sum_by, All}
+use Rattle.std.specs.Global.{Vec}
 use Rattle.std.specs.Io.{StartsWith}
 use Rattle.std.specs.List.{last_or}
 use Rattle.std.proofs.Math.Seq.{drop-append_seam, take-length}
-use Rattle.std.proofs.lemmas.List.{append-nil, drop-drop, take-take}
+use Rattle.std.proofs.lemmas.List.{append-nil, drop-drop, take-take, take_all}
 use Rattle.std.proofs.lemmas.List.Sums.{sum_by-append}
 use Rattle.std.specs.declared.io.Error.{Error as Cause}
 use Rattle.std.specs.declared.io.ErrorKind.TheVariants.{WriteZero}
@@ -17,7 +18,7 @@ use Rattle.calloop_io.specs.declared.notes.PollNote.{PollNote}
 use Rattle.calloop_io.specs.declared.notes.PollNote.TheVariants.{Refused, Waits, Tried}
 use Rattle.calloop_io.specs.AdapterNotes.{with_poll_note}
 use Rattle.calloop_io.specs.AsyncPolls.{Polls, AnswersWith, to_read, to_write}
-use Rattle.calloop_io.specs.WholePolls.{notes_since, HasMoreNotes, moved_by, moved_in, moved, last_since, count_of, FailsSo, WriteFailsSo, HasNoRoom, ReadsMore, IsLonger, HasEnded, WaitsForLine, LineFailsSo, tries_by, tries_since}
+use Rattle.calloop_io.specs.WholePolls.{notes_since, HasMoreNotes, moved_by, moved_in, moved, last_since, count_of, FailsSo, WriteFailsSo, HasNoRoom, ReadsMore, IsLonger, HasEnded, TakesLine, WaitsForLine, LineFailsSo, tries_by, tries_since}
 
 abbrev pub with_notes : PollTally → List PollNote → PollTally
 with_notes s ys = record s { notes = s.notes ++ ys }
@@ -71,29 +72,29 @@ answered : (wanted : Interest) (s : PollTally) (answer : Result ℕ Cause) (resu
     → AnswersWith wanted answer (with_poll_note (Tried answer) (with_poll_note (Refused None) s)) result t → Did wanted s result t
 answered wanted s answer (Ready given) t h =
     elim h [
-      inl k ↦ let DidSo : Result ℕ Cause → Type 0 = λ given. Did wanted s (Ready given) t in subst DidSo (sym k.0) (tried wanted s answer t k.2)
-    | inr k ↦
-        let DidSo : Result ℕ Cause → Type 0 = λ given. Did wanted s (Ready given) t in
-        let wrote : with_poll_note (Tried answer) (with_poll_note (Refused None) s) ≡ with_poll_note (Tried (Err k.0)) (with_poll_note (Refused None) s) =
-            ap (λ (a : Result ℕ Cause). with_poll_note (Tried a) (with_poll_note (Refused None) s)) k.2 in
-        subst DidSo (sym k.4) (elim k.6 [
-          inl same ↦ did wanted s (Ready (Err k.1)) t (Refused None ∷ Tried (Err k.0) ∷ []) (two s t _ _ (same ∙ wrote)) refl (inr k.5) tt
-        | inr more ↦ did wanted s (Ready (Err k.1)) t (Refused None ∷ Tried (Err k.0) ∷ Waits wanted ∷ []) (three s t _ _ _ (more ∙ ap (with_poll_note (Waits wanted)) wrote)) refl k.5 tt
-        ])
+      | inl k ↦ let DidSo : Result ℕ Cause → Type 0 = λ given. Did wanted s (Ready given) t in subst DidSo (sym k.0) (tried wanted s answer t k.2)
+      | inr k ↦
+          let DidSo : Result ℕ Cause → Type 0 = λ given. Did wanted s (Ready given) t in
+          let wrote : with_poll_note (Tried answer) (with_poll_note (Refused None) s) ≡ with_poll_note (Tried (Err k.0)) (with_poll_note (Refused None) s) =
+          ap (λ (a : Result ℕ Cause). with_poll_note (Tried a) (with_poll_note (Refused None) s)) k.2 in
+          subst DidSo (sym k.4) (elim k.6 [
+            | inl same ↦ did wanted s (Ready (Err k.1)) t (Refused None ∷ Tried (Err k.0) ∷ []) (two s t _ _ (same ∙ wrote)) refl (inr k.5) tt
+            | inr more ↦ did wanted s (Ready (Err k.1)) t (Refused None ∷ Tried (Err k.0) ∷ Waits wanted ∷ []) (three s t _ _ _ (more ∙ ap (with_poll_note (Waits wanted)) wrote)) refl k.5 tt
+          ])
     ]
 answered wanted s answer Pending t h =
     let wrote : with_poll_note (Tried answer) (with_poll_note (Refused None) s) ≡ with_poll_note (Tried (Err h.0)) (with_poll_note (Refused None) s) =
-        ap (λ (a : Result ℕ Cause). with_poll_note (Tried a) (with_poll_note (Refused None) s)) h.1 in
+    ap (λ (a : Result ℕ Cause). with_poll_note (Tried a) (with_poll_note (Refused None) s)) h.1 in
     did wanted s Pending t (Refused None ∷ Tried (Err h.0) ∷ Waits wanted ∷ []) (three s t _ _ _ (h.3 ∙ ap (with_poll_note (Waits wanted)) wrote)) refl refl tt
 
 -- what one read or write did, by its contract
 pub polled : (wanted : Interest) (s : PollTally) (result : Poll (Result ℕ Cause)) (t : PollTally) → Polls wanted Tried s result t → Did wanted s result t
 polled wanted s result t h =
     elim h [
-      inl k ↦
-        let DidSo : Poll (Result ℕ Cause) → Type 0 = λ r. Did wanted s r t in
-        subst DidSo (sym k.3) (did wanted s (Ready (Err k.1)) t (Refused (Some k.0) ∷ []) k.4 refl k.2 tt)
-    | inr k ↦ answered wanted s k.0 result t k.1
+      | inl k ↦
+          let DidSo : Poll (Result ℕ Cause) → Type 0 = λ r. Did wanted s r t in
+          subst DidSo (sym k.3) (did wanted s (Ready (Err k.1)) t (Refused (Some k.0) ∷ []) k.4 refl k.2 tt)
+      | inr k ↦ answered wanted s k.0 result t k.1
     ]
 
 -- one after the other
@@ -171,11 +172,11 @@ roomless Pending tries h = absurd h
 pub read_more : (s : PollTally) (result : Poll (Result ℕ Cause)) (t : PollTally) → ReadsMore s result t → DidRead s result t
 read_more s result t h =
     elim h [
-      inl k ↦
-        let Grown : PollTally → Type 0 = λ u. HasMoreNotes s u × (moved s u ≡ count_of result) in
-        let grew = subst Grown (sym k.1) ((no_notes s).0, ap moved_in (no_notes s).1 ∙ (roomless result 0 k.0).0) in
-        (grew.0, grew.1, inl k.0, (roomless result (tries_since s t) k.0).1)
-    | inr k ↦ let grew = polled to_read s result t k in (grew.0, grew.1, inr grew.2, grew.3)
+      | inl k ↦
+          let Grown : PollTally → Type 0 = λ u. HasMoreNotes s u × (moved s u ≡ count_of result) in
+          let grew = subst Grown (sym k.1) ((no_notes s).0, ap moved_in (no_notes s).1 ∙ (roomless result 0 k.0).0) in
+          (grew.0, grew.1, inl k.0, (roomless result (tries_since s t) k.0).1)
+      | inr k ↦ let grew = polled to_read s result t k in (grew.0, grew.1, inr grew.2, grew.3)
     ]
 
 -- what was read until now
@@ -210,27 +211,60 @@ pub read-end : (s : PollTally) (before : List ℕ) (t : PollTally) (buffer : Lis
 read-end s before t buffer u h reads =
     let last = read_more t (Ready (Ok 0)) u reads in
     elim last.2 [
-      inl k ↦ absurd k
-    | inr k ↦ last-chained to_read (Ready (Ok 0)) s t u h.more (last.0, last.1, k, last.3)
+      | inl k ↦ absurd k
+      | inr k ↦ last-chained to_read (Ready (Ok 0)) s t u h.more (last.0, last.1, k, last.3)
     ]
 
+-- nothing was read
+unchanged : (before after : List ℕ) → StartsWith after before → length after ≡ length before + 0 → after ≡ before
+unchanged before after front count = let short : length after ≤ length before = omega (arith, count) in sym (take_all (length before) after short) ∙ front
+
 -- what a pending read of more means for a line
-pub line-waits : (s t u : PollTally) (buffer : List ℕ) → HasMoreNotes s t → ReadsMore t Pending u → All (λ byte. byte ≢ 10) buffer → WaitsForLine s u buffer
-line-waits s t u buffer first reads feedless =
+pub line-waits : (s t u : PollTally) (buffer after : List ℕ) → HasMoreNotes s t → ReadsMore t Pending u → StartsWith after buffer
+    → length after ≡ length buffer + 0 → All (λ (byte : ℕ). byte ≢ 10) buffer → WaitsForLine s u after
+line-waits s t u buffer after first reads front count feedless =
     let last = read_more t Pending u reads in
+    let Feedless : List ℕ → Type 0 = λ bytes. All (λ (byte : ℕ). byte ≢ 10) bytes in
     elim last.2 [
-      inl k ↦ absurd k
-    | inr k ↦ inl (last-chained to_read Pending s t u first (last.0, last.1, k, tt), feedless)
+      | inl k ↦ absurd k
+      | inr k ↦ inl (last-chained to_read Pending s t u first (last.0, last.1, k, tt), subst Feedless (sym (unchanged buffer after front count)) feedless)
     ]
 
 -- what a failed one means
-pub line-fails : (s t u : PollTally) (cause : Cause) → HasMoreNotes s t → ReadsMore t (Ready (Err cause)) u → LineFailsSo s cause u
-line-fails s t u cause first reads =
-    let last = read_more t (Ready (Err cause)) u reads in
+pub line-fails : (s t u : PollTally) (answer : Result ℕ Cause) (cause : Cause) → HasMoreNotes s t → ReadsMore t (Ready answer) u → answer ≡ Err cause
+    → LineFailsSo s cause u
+line-fails s t u answer cause first reads is =
+    let ReadsSo : Result ℕ Cause → Type 0 = λ a. ReadsMore t (Ready a) u in
+    let last = read_more t (Ready (Err cause)) u (subst ReadsSo is reads) in
     elim last.2 [
-      inl k ↦ inl k
-    | inr k ↦ inr (last-chained to_read (Ready (Err cause)) s t u first (last.0, last.1, k, tt))
+      | inl k ↦ inl k
+      | inr k ↦ inr (last-chained to_read (Ready (Err cause)) s t u first (last.0, last.1, k, tt))
     ]
+
+-- what is left at the end of the stream is the last line
+pub line-ends : (s t u : PollTally) (before buffer after rest : List ℕ) (answer : Result ℕ Cause) (line : Option (Vec ℕ)) → HasRead s before t buffer
+    → ReadsMore t (Ready answer) u → answer ≡ Ok 0 → StartsWith after buffer → length after ≡ length buffer + count_of (Ready answer)
+    → IfSome line (λ (l : Vec ℕ). (l.items ≡ after) × (l.items ≢ [])) → IfNone line (after ≡ []) → rest ≡ [] → TakesLine s before (Ready (Ok line)) u rest
+line-ends s t u before buffer after rest answer None h reads is front count some none no_rest =
+    let ReadsSo : Result ℕ Cause → Type 0 = λ a. ReadsMore t (Ready a) u in
+    let read = read-more s before t buffer (Ready answer) u after h reads front count in
+    let Longer : List ℕ → Type 0 = λ bytes. IsLonger before (moved s u) bytes in
+    (read-end s before t buffer u h (subst ReadsSo is reads), subst Longer none read.bytes, no_rest)
+line-ends s t u before buffer after rest answer (Some line) h reads is front count some none no_rest =
+    let ReadsSo : Result ℕ Cause → Type 0 = λ a. ReadsMore t (Ready a) u in
+    let read = read-more s before t buffer (Ready answer) u after h reads front count in
+    let Longer : List ℕ → Type 0 = λ bytes. IsLonger before (moved s u) bytes in
+    inr (read-end s before t buffer u h (subst ReadsSo is reads), some.1, subst Longer (sym some.0) read.bytes, no_rest)
+
+-- and has no line feed
+pub last-feedless : (buffer after : List ℕ) (answer : Result ℕ Cause) (line : Option (Vec ℕ)) → answer ≡ Ok 0 → StartsWith after buffer
+    → length after ≡ length buffer + count_of (Ready answer) → IfSome line (λ (l : Vec ℕ). (l.items ≡ after) × (l.items ≢ []))
+    → All (λ (byte : ℕ). byte ≢ 10) buffer → IfSome line (λ (l : Vec ℕ). All (λ (byte : ℕ). byte ≢ 10) l.items)
+last-feedless buffer after answer None is front count some feedless = tt
+last-feedless buffer after answer (Some line) is front count some feedless =
+    let Feedless : List ℕ → Type 0 = λ bytes. All (λ (byte : ℕ). byte ≢ 10) bytes in
+    let none = count ∙ ap (λ (a : Result ℕ Cause). length buffer + count_of (Ready a)) is in
+    subst Feedless (sym (some.0 ∙ unchanged buffer after front none)) feedless
 
 some-and : {X : Type 0} (P Q : X → Type 0) (o : Option X) → ((x : X) → P x → Q x) → IsSomeAnd o P → IsSomeAnd o Q
 some-and P Q None more h = absurd h

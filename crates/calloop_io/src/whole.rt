@@ -1,20 +1,19 @@
 //! Polls of an `Async` that move whole vectors and lines.
-ghost use Rattle.std.specs.Prelude.{◌≡◌, ◌≢◌, ◌≤◌, ◌<◌, ◌+◌, ◌++◌, ◌∷◌, [], Some, OnOk, OnErr, IfOk, IfErr, IfSome, IfNone, IsSomeAnd, vec_len, length, slice_index, take, drop, All};
+ghost use Rattle.std.specs.Prelude.{◌≡◌, ◌≢◌, ◌≤◌, ◌<◌, ◌+◌, ◌++◌, ◌∷◌, [], OnOk, IfOk, IfErr, IfSome, IfNone, IsSomeAnd, vec_len, length, slice_index, take, drop, All};
 ghost use Rattle.std.specs.Io.{StartsWith};
-ghost use Rattle.calloop_ends.specs.futures.Polled.{IfReady, OnPending};
-ghost use Rattle.calloop_io.specs.AsyncPolls.{to_read, to_write};
-ghost use Rattle.calloop_io.specs.WholePolls.{HasMoreNotes, moved, last_since, count_of, WriteFailsSo, ReadsMore, TakesLine, WaitsForLine, LineFailsSo};
 ghost use Rattle.std.specs.IoError.{error_kind};
 ghost use Rattle.std.specs.declared.io.ErrorKind.TheVariants.{OutOfMemory};
+ghost use Rattle.calloop_ends.specs.futures.Polled.{IfReady, OnPending};
+ghost use Rattle.calloop_io.specs.AsyncPolls.{to_write};
+ghost use Rattle.calloop_io.specs.WholePolls.{HasMoreNotes, moved, last_since, count_of, WriteFailsSo, ReadsMore, TakesLine, WaitsForLine, LineFailsSo};
 ghost use Rattle.calloop_io.specs.declared.notes.PollNote.TheVariants.{Waits};
 
 use super::Async;
 use calloop_ends::futures::{Context, Poll};
-use std::io;
 use std::io::{Read, Write};
-use std::mem;
 use std::os::fd::AsRawFd;
 use std::sync::Wait;
+use std::{io, mem};
 
 // The most bytes of one read.
 const CHUNK: usize = 1024;
@@ -97,7 +96,8 @@ impl<F: AsRawFd + Drop, R: Wait + Clone + Drop> Async<F, R> {
         ensures feedless { IfReady result (λ told. IfOk told (λ line. IfSome line (λ bytes.
             All (λ byte. byte ≢ 10) bytes.items))) }
         ensures waits { OnPending result (WaitsForLine self.old self.new buffer.new.items) }
-        ensures err { IfReady result (λ told. IfErr told (λ cause. LineFailsSo self.old cause self.new)) }
+        ensures err { IfReady result (λ told. IfErr told (λ cause.
+            LineFailsSo self.old cause self.new)) }
     {
         let mut clean = 0;
         for _ in 0..READS {

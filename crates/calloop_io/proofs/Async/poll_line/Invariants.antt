@@ -8,5 +8,5 @@ invariant-loop g l = record {
   read : HasRead l.fn.self l.fn.buffer.items l.self l.buffer.items;
   tries : tries_since l.fn.self l.self ≡ l.counter;
   bound : l.clean ≤ length l.buffer.items;
-  clean : All (λ byte. byte ≢ 10) (take l.clean l.buffer.items)
+  clean : All (λ byte. byte ≢ 10) (take l.clean l.buffer.items);
 }

@@ -1,4 +1,3 @@
-use Rattle.std.proofs.Common.{◌≡◌, ◌∙◌, Ok}
 use Rattle.calloop_io.proofs.Wholes.{write-waits, write-fails, write-nothing}
 use Rattle.calloop_io.proofs.Async.poll_write_all.Goals as goal
 
