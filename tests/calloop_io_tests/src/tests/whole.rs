@@ -174,7 +174,12 @@ where
 }
 
 // Dispatches so often: whether each went well.
-fn dispatches<D, R>(rt: &R, event_loop: &mut SystemLoop<D, R>, times: u32, moved: &mut Moved) -> bool
+fn dispatches<D, R>(
+    rt: &R,
+    event_loop: &mut SystemLoop<D, R>,
+    times: u32,
+    moved: &mut Moved,
+) -> bool
 where
     D: EventDispatcher<MioPoller<SystemClock<R>>, SystemClock<R>, R, Data = Moved>,
     R: Wait + Net + RuntimeClock + Clone + Drop,
@@ -252,7 +257,9 @@ where
 
 #[test]
 fn a_vector_that_the_socket_cannot_take_at_once_is_written_by_several_polls(rt: HostRuntime) {
-    let (polls, read) = writes::<Held<HostRuntime>, HostRuntime>(&rt, rt.alloc()).expect(&rt, "moved");
+    let (polls, read) = writes::<Held<HostRuntime>, HostRuntime>(&rt, rt.alloc()).expect(
+        &rt, "moved",
+    );
     assert!(rt; polls > 1);
     assert_eq!(rt; read.len(), MANY);
     for (at, byte) in read.iter().enumerate() {
