@@ -17,7 +17,7 @@ use Rattle.calloop_io.specs.declared.state.PollTally.{PollTally}
 use Rattle.calloop_io.specs.declared.notes.PollNote.{PollNote}
 use Rattle.calloop_io.specs.declared.notes.PollNote.TheVariants.{Refused, Waits, Tried}
 use Rattle.calloop_io.specs.AdapterNotes.{with_poll_note}
-use Rattle.calloop_io.specs.AsyncPolls.{Polls, AnswersWith, to_read, to_write}
+use Rattle.calloop_io.specs.AsyncPolls.{Polls, AnswersWith, WouldNotBlock, to_read, to_write}
 use Rattle.calloop_io.specs.WholePolls.{notes_since, HasMoreNotes, moved_by, moved_in, moved, last_since, count_of, FailsSo, WriteFailsSo, HasNoRoom, ReadsMore, IsLonger, HasEnded, TakesLine, WaitsForLine, LineFailsSo, tries_by, tries_since}
 
 abbrev pub with_notes : PollTally → List PollNote → PollTally
@@ -64,21 +64,21 @@ three s t a b c is =
     ∙ ap (λ (notes : List PollNote). record s { notes = notes }) (append_assoc s.notes (a ∷ b ∷ []) (c ∷ []))
 
 tried : (wanted : Interest) (s : PollTally) (answer : Result ℕ Cause) (t : PollTally)
-    → t ≡ with_poll_note (Tried answer) (with_poll_note (Refused None) s) → Did wanted s (Ready answer) t
-tried wanted s (Ok count) t is = did wanted s (Ready (Ok count)) t (Refused None ∷ Tried (Ok count) ∷ []) (two s t _ _ is) (omega arith) refl refl
-tried wanted s (Err cause) t is = did wanted s (Ready (Err cause)) t (Refused None ∷ Tried (Err cause) ∷ []) (two s t _ _ is) refl (inl refl) tt
+    → WouldNotBlock answer → t ≡ with_poll_note (Tried answer) (with_poll_note (Refused None) s) → Did wanted s (Ready answer) t
+tried wanted s (Ok count) t flows is = did wanted s (Ready (Ok count)) t (Refused None ∷ Tried (Ok count) ∷ []) (two s t _ _ is) (omega arith) refl refl
+tried wanted s (Err cause) t flows is = did wanted s (Ready (Err cause)) t (Refused None ∷ Tried (Err cause) ∷ []) (two s t _ _ is) refl (inl (refl, flows)) tt
 
 answered : (wanted : Interest) (s : PollTally) (answer : Result ℕ Cause) (result : Poll (Result ℕ Cause)) (t : PollTally)
     → AnswersWith wanted answer (with_poll_note (Tried answer) (with_poll_note (Refused None) s)) result t → Did wanted s result t
 answered wanted s answer (Ready given) t h =
     elim h [
-      | inl k ↦ let DidSo : Result ℕ Cause → Type 0 = λ given. Did wanted s (Ready given) t in subst DidSo (sym k.0) (tried wanted s answer t k.2)
+      | inl k ↦ let DidSo : Result ℕ Cause → Type 0 = λ given. Did wanted s (Ready given) t in subst DidSo (sym k.0) (tried wanted s answer t k.1 k.2)
       | inr k ↦
           let DidSo : Result ℕ Cause → Type 0 = λ given. Did wanted s (Ready given) t in
           let wrote : with_poll_note (Tried answer) (with_poll_note (Refused None) s) ≡ with_poll_note (Tried (Err k.0)) (with_poll_note (Refused None) s) =
           ap (λ (a : Result ℕ Cause). with_poll_note (Tried a) (with_poll_note (Refused None) s)) k.2 in
           subst DidSo (sym k.4) (elim k.6 [
-            | inl same ↦ did wanted s (Ready (Err k.1)) t (Refused None ∷ Tried (Err k.0) ∷ []) (two s t _ _ (same ∙ wrote)) refl (inr k.5) tt
+            | inl same ↦ did wanted s (Ready (Err k.1)) t (Refused None ∷ Tried (Err k.0) ∷ []) (two s t _ _ (same ∙ wrote)) refl (inr (k.3, k.5)) tt
             | inr more ↦ did wanted s (Ready (Err k.1)) t (Refused None ∷ Tried (Err k.0) ∷ Waits wanted ∷ []) (three s t _ _ _ (more ∙ ap (with_poll_note (Waits wanted)) wrote)) refl k.5 tt
           ])
     ]

@@ -4,7 +4,7 @@ use Rattle.std.specs.List.{last_or}
 use Rattle.std.specs.Global.{Vec}
 use Rattle.std.specs.Io.{StartsWith}
 use Rattle.std.specs.declared.io.Error.{Error as Cause}
-use Rattle.std.specs.declared.io.ErrorKind.TheVariants.{WriteZero, OutOfMemory as NoMemory}
+use Rattle.std.specs.declared.io.ErrorKind.TheVariants.{WouldBlock, WriteZero, OutOfMemory as NoMemory}
 use Rattle.std.specs.IoError.{error_kind}
 use Rattle.calloop_slots.specs.declared.error.Error.TheVariants.{OutOfMemory}
 use Rattle.calloop_slots.specs.Errors.{AsIo}
@@ -58,7 +58,8 @@ FailsSo cause (Refused None) = ⊥
 FailsSo cause (Refused (Some e)) = AsIo e cause
 FailsSo cause (Waits wanted) = AsIo OutOfMemory cause
 FailsSo cause (Tried (Ok count)) = ⊥
-FailsSo cause (Tried (Err tried)) = (cause ≡ tried) ⊎ AsIo OutOfMemory cause
+FailsSo cause (Tried (Err tried)) =
+    ((cause ≡ tried) × (error_kind tried ≢ WouldBlock)) ⊎ ((error_kind tried ≡ WouldBlock) × AsIo OutOfMemory cause)
 FailsSo cause (Flushed answer) = ⊥
 
 -- the same, or the last write took nothing
