@@ -4,8 +4,8 @@ use Rattle.std.specs.Prelude.{IsSomeAnd, IfSome, IfNone, sum_by, All}
 use Rattle.std.specs.Global.{Vec}
 use Rattle.std.specs.Io.{StartsWith}
 use Rattle.std.specs.List.{last_or}
-use Rattle.std.proofs.Math.Seq.{drop-append_seam, take-length}
-use Rattle.std.proofs.lemmas.List.{append-nil, drop-drop, take-take, take_all}
+use Rattle.std.proofs.Math.Seq.{drop-append_seam}
+use Rattle.std.proofs.lemmas.List.{append-nil, take-take, take_all}
 use Rattle.std.proofs.lemmas.List.Sums.{sum_by-append}
 use Rattle.std.specs.declared.io.Error.{Error as Cause}
 use Rattle.std.specs.declared.io.ErrorKind.TheVariants.{WriteZero}
@@ -104,10 +104,6 @@ chained s t u first second =
     (second ∙ ap (λ (v : PollTally). with_notes v (notes_since t u)) first
     ∙ ap (λ (notes : List PollNote). record s { notes = notes }) (append_assoc s.notes (notes_since s t) (notes_since t u)))
 
-pub tries-chained : (s t u : PollTally) → HasMoreNotes s t → HasMoreNotes t u → tries_since s u ≡ tries_since s t + tries_since t u
-tries-chained s t u first second =
-    ap (λ (notes : List PollNote). sum_by tries_by notes) (chained s t u first second).1 ∙ sum_by-append tries_by (notes_since s t) (notes_since t u)
-
 pub moved-chained : (s t u : PollTally) → HasMoreNotes s t → HasMoreNotes t u → moved s u ≡ moved s t + moved t u
 moved-chained s t u first second = ap moved_in (chained s t u first second).1 ∙ sum_by-append moved_by (notes_since s t) (notes_since t u)
 
@@ -139,26 +135,6 @@ pub record Wrote (s : PollTally) (before : List ℕ) (t : PollTally) (left : Lis
   pub rest : left ≡ drop (moved s t) before
   pub count : length before ≡ moved s t + length left
 
-pub wrote-none : (s : PollTally) (before : List ℕ) → Wrote s before s before
-wrote-none s before =
-    let none : moved s s ≡ 0 = ap moved_in (no_notes s).1 in
-    record {
-      more = (no_notes s).0;
-      rest = sym (ap (λ (n : ℕ). drop n before) none);
-      count = omega (arith, none);
-    }
-
-pub wrote-more : (wanted : Interest) (s : PollTally) (before : List ℕ) (t : PollTally) (left : List ℕ) (result : Poll (Result ℕ Cause)) (u : PollTally)
-    (after : List ℕ) → Wrote s before t left → Did wanted t result u → after ≡ drop (count_of result) left
-    → count_of result + length after ≡ length left → Wrote s before u after
-wrote-more wanted s before t left result u after h last rest count =
-    let sum : moved s u ≡ moved s t + count_of result = moved-chained s t u h.more last.0 ∙ ap (λ (n : ℕ). moved s t + n) last.1 in
-    record {
-      more = (chained s t u h.more last.0).0;
-      rest = rest ∙ ap (λ (l : List ℕ). drop (count_of result) l) h.rest ∙ drop-drop (count_of result) (moved s t) before ∙ ap (λ (n : ℕ). drop n before) (sym sum);
-      count = omega (arith, sum, count, h.count);
-    }
-
 -- what one read of more did
 abbrev pub DidRead : PollTally → Poll (Result ℕ Cause) → PollTally → Type 0
 DidRead s result t =
@@ -183,11 +159,6 @@ read_more s result t h =
 pub record HasRead (s : PollTally) (before : List ℕ) (t : PollTally) (buffer : List ℕ) : Type 0 where
   pub more : HasMoreNotes s t
   pub bytes : IsLonger before (moved s t) buffer
-
-pub read-none : (s : PollTally) (before : List ℕ) → HasRead s before s before
-read-none s before =
-    let none : moved s s ≡ 0 = ap moved_in (no_notes s).1 in
-    record { more = (no_notes s).0; bytes = (take-length before, omega (arith, none)) }
 
 front_of_front : (xs ys zs : List ℕ) → StartsWith ys xs → StartsWith zs ys → length xs ≤ length ys → StartsWith zs xs
 front_of_front xs ys zs one two short =
