@@ -1,1 +1,2 @@
 pub mod Adapting
+pub mod Wholes

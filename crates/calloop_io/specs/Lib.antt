@@ -5,3 +5,4 @@ pub mod Adapters
 pub mod AsyncPolls
 pub mod Refusals
 pub mod TakingUp
+pub mod WholePolls

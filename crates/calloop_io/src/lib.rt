@@ -31,6 +31,7 @@ mod ready;
 mod refusal;
 mod shared;
 pub mod state;
+mod whole;
 
 pub use adapter::Adapter;
 pub use ready::{Readable, Writable};

@@ -43,13 +43,23 @@ impl<R: Wait + Clock + Clone + Drop> End<R> {
         Ok(End::Client(io, lines, Vec::new(alloc)))
     }
 
-    // Writes if something is left, and otherwise reads.
+    // Writes all that is left, and then reads: how many bytes.
     fn step(&mut self, cx: &mut Context<'_, R>) -> Poll<io::Result<usize>> {
+        let written = match self {
+            End::Server(io, left) => io.poll_write_all(cx, left),
+            End::Client(io, left, _heard) => io.poll_write_all(cx, left),
+        };
+        match written {
+            Poll::Ready(Ok(())) => self.read(cx),
+            Poll::Ready(Err(cause)) => Poll::Ready(Err(cause)),
+            Poll::Pending => Poll::Pending,
+        }
+    }
+
+    fn read(&mut self, cx: &mut Context<'_, R>) -> Poll<io::Result<usize>> {
         match self {
-            End::Server(io, left) if left.is_empty() => read(io, cx, left),
-            End::Client(io, left, heard) if left.is_empty() => read(io, cx, heard),
-            End::Server(io, left) => write(io, cx, left),
-            End::Client(io, left, _heard) => write(io, cx, left),
+            End::Server(io, left) => io.poll_read_more(cx, left),
+            End::Client(io, _left, heard) => io.poll_read_more(cx, heard),
         }
     }
 
@@ -64,35 +74,6 @@ impl<R: Wait + Clock + Clone + Drop> End<R> {
             _ => None,
         }
     }
-}
-
-// Reads what is there, up to 64 bytes, to the end of these.
-fn read<R: Wait + Clock + Clone + Drop>(
-    io: &mut Socket<R>,
-    cx: &mut Context<'_, R>,
-    to: &mut Vec<u8>,
-) -> Poll<io::Result<usize>> {
-    let mut bytes = [0u8; 64];
-    let read = io.poll_read(cx, &mut bytes);
-    if let Poll::Ready(Ok(count)) = read {
-        if to.extend_from_slice(&bytes[..count]).is_err() {
-            return Poll::Ready(Err(io::Error::from(io::ErrorKind::OutOfMemory)));
-        }
-    }
-    read
-}
-
-// Writes of these what the socket takes.
-fn write<R: Wait + Clock + Clone + Drop>(
-    io: &mut Socket<R>,
-    cx: &mut Context<'_, R>,
-    from: &mut Vec<u8>,
-) -> Poll<io::Result<usize>> {
-    let written = io.poll_write(cx, from);
-    if let Poll::Ready(Ok(count)) = written {
-        drop(from.drain(..count));
-    }
-    written
 }
 
 impl<R: Wait + Clock + Clone + Drop> Future<R> for End<R> {

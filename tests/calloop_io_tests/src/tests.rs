@@ -11,6 +11,7 @@ mod peers;
 mod polls;
 mod strangers;
 mod touches;
+mod whole;
 
 use calloop_poll::sys::{Interest, Mode, Watched};
 use calloop_script::{ScriptCall, ScriptKind};
