@@ -59,8 +59,10 @@ impl<F: AsRawFd + Drop, R: Wait + Drop> Drop for Async<F, R> {
     }
 }
 
-/// Makes both ends of an adapter that is in no loop yet. The socket is in neither end; `LoopHandle::adapt_io` calls this
-/// first. If memory runs out it fails with `OutOfMemory`, and hands the socket back.
+/// Makes both ends of an adapter that is in no loop yet, and sets the socket non-blocking. The socket is in neither end;
+/// `LoopHandle::adapt_io` calls this first. If memory runs out it fails with `OutOfMemory`, and hands the socket back.
+///
+/// A descriptor that can't be set so, since it is closed, is refused by the poller once a poll waits.
 pub fn make_ends<F: AsRawFd + Drop, R: Wait + Clone + Drop>(
     rt: &R,
     alloc: Global,
@@ -74,7 +76,10 @@ pub fn make_ends<F: AsRawFd + Drop, R: Wait + Clone + Drop>(
         × (refused.error ≡ OutOfMemory)) }
 {
     match shared::make_ends(rt, alloc) {
-        Ok((slot, poll)) => Ok((Adapter::new(slot), Async { end: poll }, io)),
+        Ok((slot, poll)) => {
+            let _is_set = os::set_nonblocking(io.as_raw_fd(), true);
+            Ok((Adapter::new(slot), Async { end: poll }, io))
+        }
         Err(error) => Err(InsertError {
             inserted: io,
             error,

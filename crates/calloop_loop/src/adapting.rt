@@ -17,7 +17,7 @@ use std::sync::Wait;
 
 impl<D: EventDispatcher<P, C, R>, P: Poller, C: Clock, R: Wait + Drop> LoopHandle<'_, D, P, C, R> {
     /// Adapts a socket: its `Async` polls it as a future, and the loop tells the `Async` what it finds. The adapter takes a slot,
-    /// which no call of a handle names; no poller is called until a poll waits.
+    /// which no call of a handle names; no poller is called until a poll waits. The socket is set non-blocking, and stays so.
     ///
     /// Fails as an insertion does, and leaves the loop as that does. Each failure hands the socket back.
     pub fn adapt_io<F, N>(
@@ -92,8 +92,8 @@ impl<D: EventDispatcher<P, C, R>, P: Poller, C: Clock, R: Wait + Drop> LoopHandl
 }
 
 impl<D, I> Requests<D, I> {
-    /// Asks for a socket to be adapted. Its `Async` is there at once, as calloop's is; what it waits for is registered when its
-    /// adapter is in the loop. The answer is `Inserted`, or `NotInserted`: then the socket stays with the `Async`, and `get_mut`
+    /// Asks for a socket to be adapted, and sets it non-blocking. Its `Async` is there at once, as calloop's is; what it waits for is
+    /// registered when its adapter is in the loop. The answer is `Inserted`, or `NotInserted`: then the socket stays with the `Async`, and `get_mut`
     /// reaches it.
     ///
     /// If this call fails, it hands the socket back, and nothing is asked for.

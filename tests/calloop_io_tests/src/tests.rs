@@ -1,5 +1,6 @@
 //! Adapters over a scripted poller, and over sockets of the machine.
 mod asked;
+mod blocking;
 mod desk;
 mod early;
 mod ends;
