@@ -70,7 +70,7 @@ pub fn make_executor<Fut: Future<R>, R: Wait + Clone + Drop>(
         end: receiving,
         homes: of_executor,
     };
-    Ok((executor, Scheduler::of(sending, homes)))
+    Ok((executor, Scheduler::of(sending, homes, alloc)))
 }
 
 impl<Fut: Drop, R: Wait + Drop> Drop for Executor<Fut, R> {

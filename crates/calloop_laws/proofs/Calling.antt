@@ -319,7 +319,7 @@ module _ {D I P X S F E M T Cause : Type 0} (tally : S → Tally) (Same : S → 
       let cut : CutTo L e (Source (held before)) (after_changes v h.ahead) h.x h.changes h.next =
       subst (λ (c : Content D). CutTo L e c (after_changes v h.ahead) h.x h.changes h.next) stood h.cut in
       let did = (means.does before (after_cut view.poll)
-      (Turned e.readiness e.token (lend h.x (of_turn (registration_of e.token) view.held.asks) cut.1 cut.3 (of_turn (registration_of e.token) (asks_after view.held.asks cut.4))))
+      (Turned e.readiness e.token (lend h.x (of_turn (registration_of e.token) view.held.asks) cut.1 cut.3 (asks_after (of_turn (registration_of e.token) view.held.asks) cut.4)))
       cut.2 cut.0).0 cut.5 in
       let served : h.next ≡ Serving (registration_of e.token) (held did.0) cut.1 cut.3 =
       cut.7 ∙ ap (λ (d : D). Serving (registration_of e.token) d cut.1 cut.3) did.1 in
@@ -330,7 +330,7 @@ module _ {D I P X S F E M T Cause : Type 0} (tally : S → Tally) (Same : S → 
         calls = did.2.inner.calls;
         action = turn.action;
         x = cut.3;
-        asked = of_turn (registration_of e.token) (asks_after view.held.asks cut.4);
+        asked = asks_after (of_turn (registration_of e.token) view.held.asks) cut.4;
         opened = turn.opened;
         next = served ∙ ap (λ (r : Result PostAction Error). Serving (registration_of e.token) (held did.0) r cut.3) (answered becomes did.2.inner.answer turn.action cut.1 turn.is did.2.told);
         went = did.2.went;

@@ -23,7 +23,7 @@ use Rattle.calloop_sources.specs.sources.Meanings.{Meaning}
 use Rattle.calloop_loop.specs.declared.asks.Asked.{Asked}
 use Rattle.calloop_loop.specs.declared.asks.Idling.{Idling as Waiter}
 use Rattle.calloop_loop.specs.declared.asks.Request.{Request}
-use Rattle.calloop_loop.specs.declared.asks.Request.TheVariants.{Insert as AskInsert, Enable as AskEnable, Update as AskUpdate, Disable as AskDisable, Remove as AskRemove, Idle as AskIdle, Cancel as AskCancel}
+use Rattle.calloop_loop.specs.declared.asks.Request.TheVariants.{Insert as AskInsert, Enable as AskEnable, Update as AskUpdate, Disable as AskDisable, SetDeadline as AskSetDeadline, Remove as AskRemove, Idle as AskIdle, Cancel as AskCancel}
 use Rattle.calloop_loop.specs.Askings.{Asks, Runs, begun_from}
 use Rattle.calloop_loop.specs.Machine.{World, View, IsNew, Change, Holds, visible, slot_of, world_after, world_after_all, Appended}
 use Rattle.calloop_loop.proofs.Roles.{left_removed}
@@ -127,6 +127,7 @@ module _ {D I P X : Type 0} (C : D → Type 0) (S : D → D → Type 0) (M : Mea
   served_as_fresh w (AskEnable token) answer cs h k = own_or (content_at (map slot_of w.slots) token) (λ g. rw g.1 (tt, k)) (λ g. asked_fresh w _ _ token (only (is_callers M) (content_at (map slot_of w.slots) token)) answer cs (λ d a l. l) g k) h
   served_as_fresh w (AskUpdate token) answer cs h k = own_or (content_at (map slot_of w.slots) token) (λ g. rw g.1 ((tt, tt), k)) (λ g. asked_fresh w _ _ token (only (is_callers M) (content_at (map slot_of w.slots) token)) answer cs (λ d a l. l) g k) h
   served_as_fresh w (AskDisable token) answer cs h k = own_or (content_at (map slot_of w.slots) token) (λ g. rw g.1 ((tt, tt), k)) (λ g. asked_fresh w _ _ token (only (is_callers M) (content_at (map slot_of w.slots) token)) answer cs (λ d a l. l) g k) h
+  served_as_fresh w (AskSetDeadline token deadline) answer cs h k = own_or (content_at (map slot_of w.slots) token) (λ g. rw g.1 (tt, k)) (λ g. asked_fresh w _ _ token (only (is_callers M) (content_at (map slot_of w.slots) token)) answer cs (λ d a l. l) g k) h
   served_as_fresh w (AskInsert d) answer cs h k = absurd h
   served_as_fresh w (AskRemove token) answer cs h k = absurd h
   served_as_fresh w (AskIdle idle) answer cs h k = absurd h
@@ -137,6 +138,7 @@ module _ {D I P X : Type 0} (C : D → Type 0) (S : D → D → Type 0) (M : Mea
   served_fresh w (AskEnable token) cs n h k = told_fresh w h.1 cs _ (λ u l. l) h.3 (served_as_fresh w (AskEnable token) h.0 h.1 h.2 k)
   served_fresh w (AskUpdate token) cs n h k = told_fresh w h.1 cs _ (λ u l. l) h.3 (served_as_fresh w (AskUpdate token) h.0 h.1 h.2 k)
   served_fresh w (AskDisable token) cs n h k = told_fresh w h.1 cs _ (λ u l. l) h.3 (served_as_fresh w (AskDisable token) h.0 h.1 h.2 k)
+  served_fresh w (AskSetDeadline token deadline) cs n h k = told_fresh w h.1 cs _ (λ u l. l) h.3 (served_as_fresh w (AskSetDeadline token deadline) h.0 h.1 h.2 k)
   served_fresh w (AskRemove token) cs n h k =
       own_or (content_at (map slot_of w.slots) token) (λ g. rw g ((tt, (tt, (tt, tt))), k)) (λ g. told_fresh w g.1 cs _ (λ u l. l) g.3 (removed_fresh w token (only (is_callers M) (content_at (map slot_of w.slots) token)) g.0 g.1 g.2 k)) h
   served_fresh w (AskIdle idle) cs n h k = rw h ((tt, tt), k)
@@ -236,6 +238,7 @@ any_request (AskInsert d) = tt
 any_request (AskEnable token) = tt
 any_request (AskUpdate token) = tt
 any_request (AskDisable token) = tt
+any_request (AskSetDeadline token deadline) = tt
 any_request (AskRemove token) = tt
 any_request (AskIdle idle) = tt
 any_request (AskCancel ticket) = tt

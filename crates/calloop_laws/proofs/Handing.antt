@@ -28,7 +28,7 @@ use Rattle.calloop_sources.specs.sources.Meanings.{Meaning}
 use Rattle.calloop_loop.specs.declared.asks.Asked.{Asked}
 use Rattle.calloop_loop.specs.declared.asks.Idling.{Idling as Waiter}
 use Rattle.calloop_loop.specs.declared.asks.Request.{Request}
-use Rattle.calloop_loop.specs.declared.asks.Request.TheVariants.{Insert as AskInsert, Enable as AskEnable, Update as AskUpdate, Disable as AskDisable, Remove as AskRemove, Idle as AskIdle, Cancel as AskCancel}
+use Rattle.calloop_loop.specs.declared.asks.Request.TheVariants.{Insert as AskInsert, Enable as AskEnable, Update as AskUpdate, Disable as AskDisable, SetDeadline as AskSetDeadline, Remove as AskRemove, Idle as AskIdle, Cancel as AskCancel}
 use Rattle.calloop_loop.specs.Askings.{Asks, Runs}
 use Rattle.calloop_loop.specs.Machine.{World, visible, View, Change, Put, Claim, Swapped, Polls, Polling, Watching, Counting, Holds, Appended, Gathered, Cut, Ended, after_change, all_viewed}
 use Rattle.calloop_loop.specs.Roles.{only, is_callers, is_adapter}
@@ -279,6 +279,7 @@ module _ {D I P X : Type 0} (M : Meaning D P (Lent X (Asks D I))) (runs : Runs D
   served_as_still v (AskEnable token) answer cs h = own_or (content_at v.slots token) (λ k. rw k.1 tt) (λ k. asked_still _ _ token (only (is_callers M) (content_at v.slots token)) answer cs k) h
   served_as_still v (AskUpdate token) answer cs h = own_or (content_at v.slots token) (λ k. rw k.1 (tt, tt)) (λ k. asked_still _ _ token (only (is_callers M) (content_at v.slots token)) answer cs k) h
   served_as_still v (AskDisable token) answer cs h = own_or (content_at v.slots token) (λ k. rw k.1 (tt, tt)) (λ k. asked_still _ _ token (only (is_callers M) (content_at v.slots token)) answer cs k) h
+  served_as_still v (AskSetDeadline token deadline) answer cs h = own_or (content_at v.slots token) (λ k. rw k.1 tt) (λ k. asked_still _ _ token (only (is_callers M) (content_at v.slots token)) answer cs k) h
   served_as_still v (AskInsert d) answer cs h = absurd h
   served_as_still v (AskRemove token) answer cs h = absurd h
   served_as_still v (AskIdle idle) answer cs h = absurd h
@@ -289,6 +290,7 @@ module _ {D I P X : Type 0} (M : Meaning D P (Lent X (Asks D I))) (runs : Runs D
   served_still v (AskEnable token) cs h = told_still h.1 cs _ h.3 (served_as_still v (AskEnable token) h.0 h.1 h.2)
   served_still v (AskUpdate token) cs h = told_still h.1 cs _ h.3 (served_as_still v (AskUpdate token) h.0 h.1 h.2)
   served_still v (AskDisable token) cs h = told_still h.1 cs _ h.3 (served_as_still v (AskDisable token) h.0 h.1 h.2)
+  served_still v (AskSetDeadline token deadline) cs h = told_still h.1 cs _ h.3 (served_as_still v (AskSetDeadline token deadline) h.0 h.1 h.2)
   served_still v (AskRemove token) cs h =
       own_or (content_at v.slots token) (λ k. rw k (tt, (tt, (tt, tt)))) (λ k. told_still k.1 cs _ k.3 (removed_still v token (only (is_callers M) (content_at v.slots token)) k.0 k.1 k.2)) h
   served_still v (AskIdle idle) cs h = rw h (tt, tt)

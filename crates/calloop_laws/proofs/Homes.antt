@@ -8,6 +8,7 @@ use Rattle.calloop_slots.specs.Widths.{versions}
 use Rattle.calloop_slots.specs.declared.error.Error.{Error}
 use Rattle.calloop_slots.specs.declared.error.InsertError.{InsertError}
 use Rattle.calloop_slots.specs.declared.token.RegistrationToken.{RegistrationToken}
+use Rattle.calloop_slots.specs.declared.wheel.Instant.{Instant}
 use Rattle.calloop_slots.specs.declared.token.TokenFactory.{TokenFactory}
 use Rattle.calloop_slots.specs.declared.token.Token.{Token}
 use Rattle.calloop_slots.specs.declared.list.Content.{Content}
@@ -34,12 +35,12 @@ use Rattle.calloop_loop.specs.Held.{HeldStep, Begun, Pend}
 use Rattle.calloop_loop.specs.declared.asks.Asked.{Asked}
 use Rattle.calloop_loop.specs.declared.asks.Idling.{Idling as Waiter}
 use Rattle.calloop_loop.specs.declared.asks.Request.{Request}
-use Rattle.calloop_loop.specs.declared.asks.Request.TheVariants.{Insert as AskInsert, Enable as AskEnable, Update as AskUpdate, Disable as AskDisable, Remove as AskRemove, Idle as AskIdle, Cancel as AskCancel}
+use Rattle.calloop_loop.specs.declared.asks.Request.TheVariants.{Insert as AskInsert, Enable as AskEnable, Update as AskUpdate, Disable as AskDisable, SetDeadline as AskSetDeadline, Remove as AskRemove, Idle as AskIdle, Cancel as AskCancel}
 use Rattle.calloop_loop.specs.Askings.{Asks, Runs, asks_after, of_turn}
 use Rattle.calloop_loop.specs.Machine.{World, View, IsNew, Change, Holds, all_viewed, visible, slot_of, after_change, Appended}
 use Rattle.calloop_loop.specs.Roles.{only, is_callers, is_adapter}
 use Rattle.calloop_loop.proofs.Roles.{Shows, only_is, left_removed}
-use Rattle.calloop_loop.specs.Rules.{Doing, Beginning, Settling, Sleeping, Waiting, Gathering, Noticing, Cutting, Serving, Ending, Returning, Idling, RunningIdles, ServingIdle, Leaving, Step, Steps, SleptAs, SleptBy, NoticedBy, told_in, CutTo, CutFrom, ActedBy, ReturnedTo, vacate, after_turn, after_wait, Outcome, RegisteredBy, Case, Once, Run, InsertedBy, AskedIn, SettledIn, TakesUp, as_listed, EnabledBy, UpdatedBy, DisabledBy, RemovedIn, RemovedBy, ReleasedBy, ExchangedIn, ExchangedBy, IdleInsertedBy, OwnOr, Served, ServedAs, ServedFrom, RunFrom, action_of, factory_of, after_changes, all_traced, appends}
+use Rattle.calloop_loop.specs.Rules.{Doing, Beginning, Settling, Sleeping, Waiting, Gathering, Noticing, Cutting, Serving, Ending, Returning, Idling, RunningIdles, ServingIdle, Leaving, Step, Steps, SleptAs, SleptBy, NoticedBy, told_in, CutTo, CutFrom, ActedBy, ReturnedTo, vacate, after_turn, after_wait, Outcome, RegisteredBy, RearmedBy, Case, Once, Run, InsertedBy, AskedIn, SettledIn, TakesUp, as_listed, EnabledBy, UpdatedBy, DisabledBy, RemovedIn, RemovedBy, ReleasedBy, ExchangedIn, ExchangedBy, IdleInsertedBy, OwnOr, Served, ServedAs, ServedFrom, RunFrom, action_of, factory_of, after_changes, all_traced, appends}
 use Rattle.calloop_laws.specs.Homes.{AllAtHome}
 use Rattle.calloop_laws.specs.Laws.{HasNoMoreKeys, AllBringNoKey, flatten, changes_of}
 use Rattle.calloop_loop.proofs.Seen.{seen-all_traced, viewed-append}
@@ -148,6 +149,10 @@ module _ {D I P X : Type 0} (M : Meaning D P (Lent X (Asks D I))) (runs : Runs D
   anew_home token v d e answer l (inl h) home = rw h.3 home
   anew_home token v d e answer l (inr h) home = (law token d e v (Reregistered (factory_of token) answer h.0) l (home, own_factory token) h.1).0
 
+  rearmed_home : {listed : Bool} (deadline : Instant) (token : RegistrationToken) (v : PollView P) (d e : D) (answer : Outcome) (l : List (PollStep P)) → RearmedBy M deadline token listed v d answer l e → IsAtHome M token d → IsAtHome M token e
+  rearmed_home deadline token v d e answer l (inl h) home = rw h.2 home
+  rearmed_home deadline token v d e answer l (inr h) home = anew_home token v h.0 e answer l h.2 (λ key k. home key ((h.1.1.keys key).0 k))
+
   appends_homely : (given : List (Readiness × Token)) (v : View D I P) → Homely v.slots → Homely (all_viewed v (appends given)).slots
   appends_homely [] v k = k
   appends_homely (e ∷ es) v k = appends_homely es (after_change v (Appended (own_event e))) k
@@ -175,7 +180,7 @@ module _ {D I P X : Type 0} (M : Meaning D P (Lent X (Asks D I))) (runs : Runs D
   cut_homely v e x cs b InTurn is h k = rw (h.0, h.1) (k, tt)
   cut_homely v e x cs b (Source d) is h k =
       let token = registration_of e.token in
-      let home = (law token d h.0 (after_cut v.poll) (Turned e.readiness e.token (lend x (of_turn (registration_of e.token) v.held.asks) h.1 h.3 (of_turn (registration_of e.token) (asks_after v.held.asks h.4)))) h.2 (home_named v.slots token d is k) h.5).0 in
+      let home = (law token d h.0 (after_cut v.poll) (Turned e.readiness e.token (lend x (of_turn (registration_of e.token) v.held.asks) h.1 h.3 (asks_after (of_turn (registration_of e.token) v.held.asks) h.4))) h.2 (home_named v.slots token d is k) h.5).0 in
       rw (h.6, h.7) (homely_without v.slots e.token.slot InTurn (λ d e. cc) k, home)
 
   from_homely : (v : View D I P) (es : List Pending) (x : X) (cs : List (Change D I P)) (b : Doing D X) → CutFrom M es v x cs b → Homely v.slots → Homely (all_viewed v cs).slots × AsideHomely b
@@ -240,6 +245,7 @@ module _ {D I P X : Type 0} (M : Meaning D P (Lent X (Asks D I))) (runs : Runs D
   served_as_homely v (AskEnable token) answer cs h k = own_or (content_at v.slots token) (λ _ o. rw o.1 k) (λ o. asked_homely v _ _ token answer cs (only (is_callers M) (content_at v.slots token)) (λ d e l u home. first_home token v.poll d e answer l u home) (only_is (is_callers M) v.slots token) o k) h
   served_as_homely v (AskUpdate token) answer cs h k = own_or (content_at v.slots token) (λ _ o. rw o.1 k) (λ o. asked_homely v _ _ token answer cs (only (is_callers M) (content_at v.slots token)) (λ d e l u home. anew_home token v.poll d e answer l u home) (only_is (is_callers M) v.slots token) o k) h
   served_as_homely v (AskDisable token) answer cs h k = own_or (content_at v.slots token) (λ _ o. rw o.1 k) (λ o. asked_homely v _ _ token answer cs (only (is_callers M) (content_at v.slots token)) (λ d e l u home. (law token d e v.poll (Unregistered answer) l home u).0) (only_is (is_callers M) v.slots token) o k) h
+  served_as_homely v (AskSetDeadline token deadline) answer cs h k = own_or (content_at v.slots token) (λ _ o. rw o.1 k) (λ o. asked_homely v _ _ token answer cs (only (is_callers M) (content_at v.slots token)) (λ d e l u home. rearmed_home deadline token v.poll d e answer l u home) (only_is (is_callers M) v.slots token) o k) h
   served_as_homely v (AskInsert d) answer cs h k = absurd h
   served_as_homely v (AskRemove token) answer cs h k = absurd h
   served_as_homely v (AskIdle idle) answer cs h k = absurd h
@@ -250,6 +256,7 @@ module _ {D I P X : Type 0} (M : Meaning D P (Lent X (Asks D I))) (runs : Runs D
   served_homely v (AskEnable token) cs h k = told_homely v h.1 cs _ h.3 (served_as_homely v (AskEnable token) h.0 h.1 h.2 k)
   served_homely v (AskUpdate token) cs h k = told_homely v h.1 cs _ h.3 (served_as_homely v (AskUpdate token) h.0 h.1 h.2 k)
   served_homely v (AskDisable token) cs h k = told_homely v h.1 cs _ h.3 (served_as_homely v (AskDisable token) h.0 h.1 h.2 k)
+  served_homely v (AskSetDeadline token deadline) cs h k = told_homely v h.1 cs _ h.3 (served_as_homely v (AskSetDeadline token deadline) h.0 h.1 h.2 k)
   served_homely v (AskRemove token) cs h k =
       own_or (content_at v.slots token) (λ _ o. rw o (homely_without v.slots token.slot Vacant (λ d e. cc) k)) (λ o. told_homely v o.1 cs _ o.3 (removed_homely v token o.0 o.1 (only (is_callers M) (content_at v.slots token)) o.2 k)) h
   served_homely v (AskIdle idle) cs h k = rw h k

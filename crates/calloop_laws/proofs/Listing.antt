@@ -32,7 +32,7 @@ use Rattle.calloop_loop.specs.Held.{Held, HeldStep, Begun, Pend, Told, held_afte
 use Rattle.calloop_loop.specs.declared.asks.Asked.{Asked}
 use Rattle.calloop_loop.specs.declared.asks.Idling.{Idling as Waiter}
 use Rattle.calloop_loop.specs.declared.asks.Request.{Request}
-use Rattle.calloop_loop.specs.declared.asks.Request.TheVariants.{Insert as AskInsert, Enable as AskEnable, Update as AskUpdate, Disable as AskDisable, Remove as AskRemove, Idle as AskIdle, Cancel as AskCancel}
+use Rattle.calloop_loop.specs.declared.asks.Request.TheVariants.{Insert as AskInsert, Enable as AskEnable, Update as AskUpdate, Disable as AskDisable, SetDeadline as AskSetDeadline, Remove as AskRemove, Idle as AskIdle, Cancel as AskCancel}
 use Rattle.calloop_loop.specs.Askings.{Asks, Runs}
 use Rattle.calloop_loop.specs.Machine.{World, View, Change, Holds, IsNew, visible, after_change, all_viewed, Appended}
 use Rattle.calloop_loop.specs.Roles.{only, is_callers, is_adapter}
@@ -337,6 +337,7 @@ module _ {D I P X : Type 0} (M : Meaning D P (Lent X (Asks D I))) (runs : Runs D
   served_as_kept v (AskEnable token) answer cs h k = own_or (content_at v.slots token) (λ _ o. rw o.1 k) (λ o. asked_kept v _ _ token answer cs (only (is_callers M) (content_at v.slots token)) (entered_kept token answer) (only_is (is_callers M) v.slots token) o k) h
   served_as_kept v (AskUpdate token) answer cs h k = own_or (content_at v.slots token) (λ _ o. rw o.1 k) (λ o. asked_kept v _ _ token answer cs (only (is_callers M) (content_at v.slots token)) (entered_kept token answer) (only_is (is_callers M) v.slots token) o k) h
   served_as_kept v (AskDisable token) answer cs h k = own_or (content_at v.slots token) (λ _ o. rw o.1 k) (λ o. asked_kept v _ _ token answer cs (only (is_callers M) (content_at v.slots token)) (left_kept token answer) (only_is (is_callers M) v.slots token) o k) h
+  served_as_kept v (AskSetDeadline token deadline) answer cs h k = own_or (content_at v.slots token) (λ _ o. rw o.1 k) (λ o. asked_kept v _ _ token answer cs (only (is_callers M) (content_at v.slots token)) (entered_kept token answer) (only_is (is_callers M) v.slots token) o k) h
   served_as_kept v (AskInsert d) answer cs h k = absurd h
   served_as_kept v (AskRemove token) answer cs h k = absurd h
   served_as_kept v (AskIdle idle) answer cs h k = absurd h
@@ -347,6 +348,7 @@ module _ {D I P X : Type 0} (M : Meaning D P (Lent X (Asks D I))) (runs : Runs D
   served_kept v (AskEnable token) cs h k = told_tidy v h.1 cs _ h.3 (served_as_kept v (AskEnable token) h.0 h.1 h.2 k)
   served_kept v (AskUpdate token) cs h k = told_tidy v h.1 cs _ h.3 (served_as_kept v (AskUpdate token) h.0 h.1 h.2 k)
   served_kept v (AskDisable token) cs h k = told_tidy v h.1 cs _ h.3 (served_as_kept v (AskDisable token) h.0 h.1 h.2 k)
+  served_kept v (AskSetDeadline token deadline) cs h k = told_tidy v h.1 cs _ h.3 (served_as_kept v (AskSetDeadline token deadline) h.0 h.1 h.2 k)
   served_kept v (AskRemove token) cs h k =
       own_or (content_at v.slots token)
       (λ mine o. rw o (tidy_out token (with_change (with_content Vacant) v.slots token.slot) v.held.lifecycle (tidy_vacated v.slots token v.held.lifecycle (source_full v.slots token InTurn mine refl) k)))

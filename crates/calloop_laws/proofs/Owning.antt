@@ -9,6 +9,7 @@ use Rattle.calloop_slots.specs.declared.list.Content.TheVariants.{Vacant, Source
 use Rattle.calloop_slots.specs.declared.token.Token.{Token}
 use Rattle.calloop_slots.specs.declared.token.TokenFactory.{TokenFactory}
 use Rattle.calloop_slots.specs.declared.token.RegistrationToken.{RegistrationToken}
+use Rattle.calloop_slots.specs.declared.wheel.Instant.{Instant}
 use Rattle.std.proofs.lemmas.Option.{slice_get-map}
 use Rattle.std.specs.Option.{option_map}
 use Rattle.std.specs.declared.io.Error.{Error as Cause}
@@ -26,7 +27,7 @@ use Rattle.calloop_sources.specs.sources.Meanings.{Meaning, KeepsCounters}
 use Rattle.calloop_loop.specs.declared.asks.Asked.{Asked}
 use Rattle.calloop_loop.specs.declared.asks.Idling.{Idling as Waiter}
 use Rattle.calloop_loop.specs.declared.asks.Request.{Request}
-use Rattle.calloop_loop.specs.declared.asks.Request.TheVariants.{Insert as AskInsert, Enable as AskEnable, Update as AskUpdate, Disable as AskDisable, Remove as AskRemove, Idle as AskIdle, Cancel as AskCancel}
+use Rattle.calloop_loop.specs.declared.asks.Request.TheVariants.{Insert as AskInsert, Enable as AskEnable, Update as AskUpdate, Disable as AskDisable, SetDeadline as AskSetDeadline, Remove as AskRemove, Idle as AskIdle, Cancel as AskCancel}
 use Rattle.calloop_loop.specs.Askings.{Asks, Runs, Take, asks_after, of_turn}
 use Rattle.calloop_loop.specs.Machine.{World, View, IsNew, Registration, Change, Put, Claim, Swapped, Polls, Polling, Watching, Counting, Holds, Appended, Gathered, Cut, Ended, slot_with, next_use, with_claim, world_after, world_after_all, visible, slot_of, after_change, AllFit}
 use Rattle.calloop_loop.specs.declared.LoopCall.{LoopCall}
@@ -38,10 +39,10 @@ use Rattle.calloop_loop.specs.declared.asks.Answer.TheVariants.{Done, Removed as
 use Rattle.calloop_wake.specs.Watches.{with_note}
 use Rattle.calloop_wake.specs.declared.notes.Note.TheVariants.{Counted, Marked}
 use Rattle.calloop_loop.specs.declared.stops.StopNote.TheVariants.{Forgot, Looked}
-use Rattle.calloop_loop.specs.Held.{HeldStep, Listed, Unlisted, Pend, Asking, Begun, Told, Owe, Paid, Cleared, Warned, StopNoted, IdleIn, IdleNew, IdleOut, IdlesTaken, IdleBegun}
+use Rattle.calloop_loop.specs.Held.{HeldStep, Listed, Unlisted, Pend, Asking, AskingIn, Begun, Told, Owe, Paid, Cleared, Warned, StopNoted, IdleIn, IdleNew, IdleOut, IdlesTaken, IdleBegun}
 use Rattle.calloop_loop.specs.Roles.{only, is_callers, is_adapter}
 use Rattle.calloop_loop.proofs.Roles.{Shows, only_is, left_removed}
-use Rattle.calloop_loop.specs.Rules.{Doing, Beginning, Settling, Sleeping, Waiting, Gathering, Noticing, Cutting, Serving, Ending, Returning, Idling, RunningIdles, ServingIdle, Leaving, Step, Steps, SleptAs, SleptBy, NoticedBy, told_in, CutTo, CutFrom, ActedBy, ReturnedTo, vacate, listing_of, after_turn, after_wait, Outcome, RegisteredBy, Case, Once, Run, InsertedBy, AskedIn, SettledIn, TakesUp, as_listed, EnabledBy, UpdatedBy, DisabledBy, RemovedIn, RemovedBy, ReleasedBy, ExchangedIn, ExchangedBy, IdleInsertedBy, OwnOr, Served, ServedAs, ServedFrom, RunFrom, action_of, factory_of, all_traced, appends}
+use Rattle.calloop_loop.specs.Rules.{Doing, Beginning, Settling, Sleeping, Waiting, Gathering, Noticing, Cutting, Serving, Ending, Returning, Idling, RunningIdles, ServingIdle, Leaving, Step, Steps, SleptAs, SleptBy, NoticedBy, told_in, CutTo, CutFrom, ActedBy, ReturnedTo, vacate, listing_of, after_turn, after_wait, Outcome, RegisteredBy, RearmedBy, Case, Once, Run, InsertedBy, AskedIn, SettledIn, TakesUp, as_listed, EnabledBy, UpdatedBy, DisabledBy, RemovedIn, RemovedBy, ReleasedBy, ExchangedIn, ExchangedBy, IdleInsertedBy, OwnOr, Served, ServedAs, ServedFrom, RunFrom, action_of, factory_of, all_traced, appends}
 use Rattle.calloop_loop.specs.Ledgers.{Ledger}
 use Rattle.calloop_laws.specs.Laws.{HoldsNone, HoldsNoMore, AllFresh, flatten, changes_of}
 use Rattle.calloop_loop.proofs.Seen.{seen-all_done, done-append}
@@ -309,6 +310,13 @@ module _ {D I P X : Type 0} (M : Meaning D P (Lent X (Asks D I))) (runs : Runs D
   registered_keeps deed token v d e answer steps (inl h) fits below = rw (h.2, h.3) (fits, λ counter. within_same (M.holds d counter))
   registered_keeps deed token v d e answer steps (inr h) fits below = law d e v (deed (factory_of token) answer h.0) steps fits below h.1
 
+  rearmed_keeps : {listed : Bool} (deadline : Instant) (token : RegistrationToken) (v : PollView P) (d e : D) (answer : Outcome) (steps : List (PollStep P)) → RearmedBy M deadline token listed v d answer steps e
+      → M.fits d → IsBelow v.deadlines.next (M.holds d) → M.fits e × Keeps (M.holds d) v.deadlines.next steps (M.holds e)
+  rearmed_keeps deadline token v d e answer steps (inl h) fits below = rw (h.1, h.2) (fits, λ counter. within_same (M.holds d counter))
+  rearmed_keeps deadline token v d e answer steps (inr h) fits below =
+      subst (λ (x : ℕ → Holding). M.fits e × Keeps x v.deadlines.next steps (M.holds e)) h.1.1.holds
+      (registered_keeps Reregistered token v h.0 e answer steps h.2 (h.1.1.fits fits) (subst (λ (x : ℕ → Holding). IsBelow v.deadlines.next x) (sym h.1.1.holds) below))
+
   -- a source is told of a wait
   told_owned : (w : World D I P) (token : RegistrationToken) (d e : D) (deed : Deed (Lent X (Asks D I))) → content_at (map slot_of w.slots) token ≡ Source d → M.does d w.poll deed [] e → IsOwned M w [] → IsOwned M (world_after_all w (told_in token e)) []
   told_owned w token d e deed is does k =
@@ -344,9 +352,9 @@ module _ {D I P X : Type 0} (M : Meaning D P (Lent X (Asks D I))) (runs : Runs D
       let allowed : AllAllowed O (after_cut w.poll) h.2 = (rw h.6 at fit).1.1.0 in
       let polled : World D I P = world_after out (Polls h.2) in
       let own : IsOwned M polled (h.0 ∷ []) =
-      owned_polls M O law out [] d h.0 h.2 allowed (λ fits below. law d h.0 (after_cut w.poll) (Turned e.readiness e.token (lend x (of_turn (registration_of e.token) w.held.asks) h.1 h.3 (of_turn (registration_of e.token) (asks_after w.held.asks h.4)))) h.2 fits below h.5)
+      owned_polls M O law out [] d h.0 h.2 allowed (λ fits below. law d h.0 (after_cut w.poll) (Turned e.readiness e.token (lend x (of_turn (registration_of e.token) w.held.asks) h.1 h.3 (asks_after (of_turn (registration_of e.token) w.held.asks) h.4))) h.2 fits below h.5)
       (owned_out M O law begun [] e.token.slot d (at_named w.slots (registration_of e.token) d is) (owned_cut M O law w [] (Some e.token.slot) k)) in
-      rw (h.6, h.7) (owned_listed M O law (world_after polled Ended) (Asking h.4) (h.0 ∷ []) (owned_same M O law polled (world_after polled Ended) (h.0 ∷ []) refl refl refl refl own))
+      rw (h.6, h.7) (owned_listed M O law (world_after polled Ended) (AskingIn (registration_of e.token) h.4) (h.0 ∷ []) (owned_same M O law polled (world_after polled Ended) (h.0 ∷ []) refl refl refl refl own))
 
   from_owned : (w : World D I P) (es : List Pending) (x : X) (cs : List (Change D I P)) (b : Doing D X) → CutFrom M es (visible w) x cs b → AllFit O (visible w) cs → IsOwned M w [] → IsOwned M (world_after_all w cs) (aside_of b)
   from_owned w [] x cs b h fit k = rw (h.0, h.1) k
@@ -468,6 +476,9 @@ module _ {D I P X : Type 0} (M : Meaning D P (Lent X (Asks D I))) (runs : Runs D
   served_as_owned w rest (AskDisable token) answer cs h fit k =
       own_or (content_at (map slot_of w.slots) token) (λ _ o. rw o.1 (owned_listed M O law w (Pend DisableIt) rest k))
       (λ o. asked_owned w rest _ _ token answer cs (only (is_callers M) (content_at (map slot_of w.slots) token)) (λ d e l u fits below. law d e w.poll (Unregistered answer) l fits below u) (only_is (is_callers M) (map slot_of w.slots) token) o fit k) h
+  served_as_owned w rest (AskSetDeadline token deadline) answer cs h fit k =
+      own_or (content_at (map slot_of w.slots) token) (λ _ o. rw o.1 k)
+      (λ o. asked_owned w rest _ _ token answer cs (only (is_callers M) (content_at (map slot_of w.slots) token)) (λ d e l u. rearmed_keeps deadline token w.poll d e answer l u) (only_is (is_callers M) (map slot_of w.slots) token) o fit k) h
   served_as_owned w rest (AskInsert d) answer cs h fit k = absurd h
   served_as_owned w rest (AskRemove token) answer cs h fit k = absurd h
   served_as_owned w rest (AskIdle idle) answer cs h fit k = absurd h
@@ -478,6 +489,7 @@ module _ {D I P X : Type 0} (M : Meaning D P (Lent X (Asks D I))) (runs : Runs D
   served_owned w rest (AskEnable token) cs fresh h fit k = told_owned_by w rest h.1 cs _ h.3 fresh fit (λ some fits. served_as_owned w rest (AskEnable token) h.0 h.1 h.2 fits k)
   served_owned w rest (AskUpdate token) cs fresh h fit k = told_owned_by w rest h.1 cs _ h.3 fresh fit (λ some fits. served_as_owned w rest (AskUpdate token) h.0 h.1 h.2 fits k)
   served_owned w rest (AskDisable token) cs fresh h fit k = told_owned_by w rest h.1 cs _ h.3 fresh fit (λ some fits. served_as_owned w rest (AskDisable token) h.0 h.1 h.2 fits k)
+  served_owned w rest (AskSetDeadline token deadline) cs fresh h fit k = told_owned_by w rest h.1 cs _ h.3 fresh fit (λ some fits. served_as_owned w rest (AskSetDeadline token deadline) h.0 h.1 h.2 fits k)
   served_owned w rest (AskRemove token) cs fresh h fit k =
       let out : World D I P = world_after w (Put token.slot Vacant) in
       own_or (content_at (map slot_of w.slots) token)

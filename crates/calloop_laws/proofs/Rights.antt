@@ -27,7 +27,7 @@ use Rattle.calloop_sources.specs.sources.Meanings.{Meaning}
 use Rattle.calloop_loop.specs.declared.asks.Asked.{Asked}
 use Rattle.calloop_loop.specs.declared.asks.Idling.{Idling as Waiter}
 use Rattle.calloop_loop.specs.declared.asks.Request.{Request}
-use Rattle.calloop_loop.specs.declared.asks.Request.TheVariants.{Insert as AskInsert, Enable as AskEnable, Update as AskUpdate, Disable as AskDisable, Remove as AskRemove, Idle as AskIdle, Cancel as AskCancel}
+use Rattle.calloop_loop.specs.declared.asks.Request.TheVariants.{Insert as AskInsert, Enable as AskEnable, Update as AskUpdate, Disable as AskDisable, SetDeadline as AskSetDeadline, Remove as AskRemove, Idle as AskIdle, Cancel as AskCancel}
 use Rattle.calloop_loop.specs.Askings.{Asks, Runs}
 use Rattle.calloop_loop.specs.Machine.{World, View, Registration, Change, Holds, visible, slot_of, world_after, world_after_all, Appended}
 use Rattle.calloop_loop.specs.Roles.{only, is_callers, is_adapter}
@@ -131,6 +131,7 @@ module _ {D I P X : Type 0} (M : Meaning D P (Lent X (Asks D I))) (runs : Runs D
   served_as_right w (AskEnable token) answer cs h = own_or (content_at (map slot_of w.slots) token) (λ k. rw k.1 tt) (λ k. asked_right w _ _ token (only (is_callers M) (content_at (map slot_of w.slots) token)) answer cs k) h
   served_as_right w (AskUpdate token) answer cs h = own_or (content_at (map slot_of w.slots) token) (λ k. rw k.1 (tt, tt)) (λ k. asked_right w _ _ token (only (is_callers M) (content_at (map slot_of w.slots) token)) answer cs k) h
   served_as_right w (AskDisable token) answer cs h = own_or (content_at (map slot_of w.slots) token) (λ k. rw k.1 (tt, tt)) (λ k. asked_right w _ _ token (only (is_callers M) (content_at (map slot_of w.slots) token)) answer cs k) h
+  served_as_right w (AskSetDeadline token deadline) answer cs h = own_or (content_at (map slot_of w.slots) token) (λ k. rw k.1 tt) (λ k. asked_right w _ _ token (only (is_callers M) (content_at (map slot_of w.slots) token)) answer cs k) h
   served_as_right w (AskInsert d) answer cs h = absurd h
   served_as_right w (AskRemove token) answer cs h = absurd h
   served_as_right w (AskIdle idle) answer cs h = absurd h
@@ -141,6 +142,7 @@ module _ {D I P X : Type 0} (M : Meaning D P (Lent X (Asks D I))) (runs : Runs D
   served_right w (AskEnable token) cs h = told_right w h.1 cs _ h.3 (served_as_right w (AskEnable token) h.0 h.1 h.2)
   served_right w (AskUpdate token) cs h = told_right w h.1 cs _ h.3 (served_as_right w (AskUpdate token) h.0 h.1 h.2)
   served_right w (AskDisable token) cs h = told_right w h.1 cs _ h.3 (served_as_right w (AskDisable token) h.0 h.1 h.2)
+  served_right w (AskSetDeadline token deadline) cs h = told_right w h.1 cs _ h.3 (served_as_right w (AskSetDeadline token deadline) h.0 h.1 h.2)
   served_right w (AskRemove token) cs h =
       own_or (content_at (map slot_of w.slots) token) (λ k. rw k (tt, (tt, (tt, tt)))) (λ k. told_right w k.1 cs _ k.3 (removed_right w token (only (is_callers M) (content_at (map slot_of w.slots) token)) k.0 k.1 k.2)) h
   served_right w (AskIdle idle) cs h = rw h (tt, tt)

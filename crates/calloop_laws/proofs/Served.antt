@@ -26,12 +26,12 @@ use Rattle.calloop_sources.specs.sources.Meanings.{Meaning}
 use Rattle.calloop_loop.specs.declared.asks.Asked.{Asked}
 use Rattle.calloop_loop.specs.declared.asks.Idling.{Idling as Waiter}
 use Rattle.calloop_loop.specs.declared.asks.Request.{Request}
-use Rattle.calloop_loop.specs.declared.asks.Request.TheVariants.{Insert as AskInsert, Enable as AskEnable, Update as AskUpdate, Disable as AskDisable, Remove as AskRemove, Idle as AskIdle, Cancel as AskCancel}
-use Rattle.calloop_loop.specs.Askings.{Asks, AskStep, Write, Take, Runs, ask_after, asks_after, begun_from, all_but_first, is_other_idle}
+use Rattle.calloop_loop.specs.declared.asks.Request.TheVariants.{Insert as AskInsert, Enable as AskEnable, Update as AskUpdate, Disable as AskDisable, SetDeadline as AskSetDeadline, Remove as AskRemove, Idle as AskIdle, Cancel as AskCancel}
+use Rattle.calloop_loop.specs.Askings.{Asks, AskStep, Write, Take, Runs, ask_after, asks_after, of_turn, begun_from, all_but_first, is_other_idle}
 use Rattle.calloop_loop.specs.Machine.{World, View, IsNew, visible, Change, Put, Claim, Swapped, Polls, Polling, Watching, Counting, Holds, Appended, Gathered, Cut, Ended, AllFit, after_change, all_viewed}
 use Rattle.calloop_loop.specs.Roles.{only, is_callers, is_adapter}
 use Rattle.calloop_loop.specs.Rules.{Doing, Beginning, Settling, Sleeping, Waiting, Gathering, Noticing, Cutting, Serving, Ending, Returning, Idling, RunningIdles, ServingIdle, Leaving, Outcome, Step, Steps, SleptAs, SleptBy, NoticedBy, CutTo, CutFrom, ActedBy, ReturnedTo, vacate, InsertedBy, AskedIn, SettledIn, RemovedIn, OwnOr, Served, ServedAs, ServedFrom, RunFrom, DispatchedBy, Run, all_traced, action_of, after_turn, after_wait, appends}
-use Rattle.calloop_loop.specs.Held.{HeldStep, Listed, Unlisted, Pend, Asking, Begun, Told, Owe, Paid, Cleared, Warned, StopNoted, IdleIn, IdleNew, IdleOut, IdlesTaken, IdleBegun}
+use Rattle.calloop_loop.specs.Held.{HeldStep, Listed, Unlisted, Pend, Asking, AskingIn, Begun, Told, Owe, Paid, Cleared, Warned, StopNoted, IdleIn, IdleNew, IdleOut, IdlesTaken, IdleBegun}
 use Rattle.calloop_laws.specs.Laws.{flatten}
 use Rattle.calloop_laws.specs.Served.{Account, first_of, events_cut, gatherings, Gathers, idles_begun, idles_cancelled, rounds, RunsRound, IsAccountOf, NothingIsLeft, AllAreCut, AllLater, NoneIsLate, DueAreCut, IdlesRan}
 use Rattle.calloop_loop.specs.declared.LoopCall.{LoopCall}
@@ -162,6 +162,7 @@ none_round (Holds (Listed needed token) ∷ cs) h = none_round cs h.1
 none_round (Holds (Unlisted token) ∷ cs) h = none_round cs h.1
 none_round (Holds (Pend action) ∷ cs) h = none_round cs h.1
 none_round (Holds (Asking steps) ∷ cs) h = none_round cs h.1
+none_round (Holds (AskingIn token steps) ∷ cs) h = none_round cs h.1
 none_round (Holds Begun ∷ cs) h = none_round cs h.1
 none_round (Holds (Told answer) ∷ cs) h = none_round cs h.1
 none_round (Holds Owe ∷ cs) h = none_round cs h.1
@@ -350,6 +351,7 @@ is_over {D} {I} {P} v (Holds (Listed needed token) ∷ cs) q i h = is_over (afte
 is_over {D} {I} {P} v (Holds (Unlisted token) ∷ cs) q i h = is_over (after_change v (Holds (Unlisted token))) cs q.1 i h
 is_over {D} {I} {P} v (Holds (Pend action) ∷ cs) q i h = is_over (after_change v (Holds (Pend action))) cs q.1 i h
 is_over {D} {I} {P} v (Holds (Asking steps) ∷ cs) q i h = is_over (after_change v (Holds (Asking steps))) cs q.1 i (subst (λ (l : List (Waiter I)). Contains l i) (sym (running_asks v.held.asks steps)) h)
+is_over {D} {I} {P} v (Holds (AskingIn token steps) ∷ cs) q i h = is_over (after_change v (Holds (AskingIn token steps))) cs q.1 i (subst (λ (l : List (Waiter I)). Contains l i) (sym (running_asks (of_turn token v.held.asks) steps)) h)
 is_over {D} {I} {P} v (Holds Begun ∷ cs) q i h = is_over (after_change v (Holds Begun)) cs q.1 i (subst (λ (l : List (Waiter I)). Contains l i) (sym (running_begun v.held.asks.written v.held.asks)) h)
 is_over {D} {I} {P} v (Holds (Told answer) ∷ cs) q i h = is_over (after_change v (Holds (Told answer))) cs q.1 i h
 is_over {D} {I} {P} v (Holds Owe ∷ cs) q i h = is_over (after_change v (Holds Owe)) cs q.1 i h
@@ -481,6 +483,7 @@ module _ {D I P X : Type 0} (M : Meaning D P (Lent X (Asks D I))) (runs : Runs D
   served_as_tame v (AskEnable token) answer cs h = own_or (content_at v.slots token) (λ k. rw k.1 tt) (λ k. asked_tame _ _ (λ d a. tt) token (only (is_callers M) (content_at v.slots token)) answer cs k) h
   served_as_tame v (AskUpdate token) answer cs h = own_or (content_at v.slots token) (λ k. rw k.1 (tt, tt)) (λ k. asked_tame _ _ (λ d a. tt) token (only (is_callers M) (content_at v.slots token)) answer cs k) h
   served_as_tame v (AskDisable token) answer cs h = own_or (content_at v.slots token) (λ k. rw k.1 (tt, tt)) (λ k. asked_tame _ _ (λ d a. tt) token (only (is_callers M) (content_at v.slots token)) answer cs k) h
+  served_as_tame v (AskSetDeadline token deadline) answer cs h = own_or (content_at v.slots token) (λ k. rw k.1 tt) (λ k. asked_tame _ _ (λ d a. tt) token (only (is_callers M) (content_at v.slots token)) answer cs k) h
   served_as_tame v (AskInsert d) answer cs h = absurd h
   served_as_tame v (AskRemove token) answer cs h = absurd h
   served_as_tame v (AskIdle idle) answer cs h = absurd h
@@ -491,6 +494,7 @@ module _ {D I P X : Type 0} (M : Meaning D P (Lent X (Asks D I))) (runs : Runs D
   served_tame v (AskEnable token) cs h = told_tame h.1 cs _ tt h.3 (served_as_tame v (AskEnable token) h.0 h.1 h.2)
   served_tame v (AskUpdate token) cs h = told_tame h.1 cs _ tt h.3 (served_as_tame v (AskUpdate token) h.0 h.1 h.2)
   served_tame v (AskDisable token) cs h = told_tame h.1 cs _ tt h.3 (served_as_tame v (AskDisable token) h.0 h.1 h.2)
+  served_tame v (AskSetDeadline token deadline) cs h = told_tame h.1 cs _ tt h.3 (served_as_tame v (AskSetDeadline token deadline) h.0 h.1 h.2)
   served_tame v (AskRemove token) cs h =
       own_or (content_at v.slots token) (λ k. rw k (tt, (tt, (tt, tt)))) (λ k. told_tame k.1 cs _ tt k.3 (removed_tame v token (only (is_callers M) (content_at v.slots token)) k.0 k.1 k.2)) h
   served_tame v (AskIdle idle) cs h = rw h (tt, tt)
@@ -804,6 +808,7 @@ module _ {D I P X : Type 0} (M : Meaning D P (Lent X (Asks D I))) (runs : Runs D
   takes_behind is js ns v (Holds (Unlisted token) ∷ cs) ds q h = takes_behind is js ns (after_change v (Holds (Unlisted token))) cs ds q.1 h
   takes_behind is js ns v (Holds (Pend action) ∷ cs) ds q h = takes_behind is js ns (after_change v (Holds (Pend action))) cs ds q.1 h
   takes_behind is js ns v (Holds (Asking steps) ∷ cs) ds q h = takes_behind is js ns (after_change v (Holds (Asking steps))) cs ds q.1 h
+  takes_behind is js ns v (Holds (AskingIn token steps) ∷ cs) ds q h = takes_behind is js ns (after_change v (Holds (AskingIn token steps))) cs ds q.1 h
   takes_behind is js ns v (Holds Begun ∷ cs) ds q h = takes_behind is js ns (after_change v (Holds Begun)) cs ds q.1 h
   takes_behind is js ns v (Holds (Told answer) ∷ cs) ds q h = takes_behind is js ns (after_change v (Holds (Told answer))) cs ds q.1 h
   takes_behind is js ns v (Holds Owe ∷ cs) ds q h = takes_behind is js ns (after_change v (Holds Owe)) cs ds q.1 h

@@ -1,5 +1,5 @@
 -- Each ticket is at most at one place, and its answer is handed out at most once.
-use Rattle.std.proofs.Common.{◌≡◌, ℕ, ◌+◌, ◌≤◌, List, [], ◌∷◌, ◌++◌, refl, arith, Some, None, Option, true, false, if◌then◌else◌, nat_eq, nat_lt}
+use Rattle.std.proofs.Common.{◌≡◌, ℕ, ◌+◌, ◌≤◌, List, [], ◌∷◌, ◌++◌, map, refl, arith, Some, None, Option, true, false, if◌then◌else◌, nat_eq, nat_lt}
 use Rattle.std.proofs.lemmas.Bool.Decides.{nat_tests}
 use Rattle.calloop_sources.specs.sources.Deeds.{Lent}
 use Rattle.calloop_sources.specs.sources.Meanings.{Meaning}
@@ -10,8 +10,9 @@ use Rattle.calloop_loop.specs.declared.asks.Answer.{Answer}
 use Rattle.calloop_loop.specs.declared.asks.Answer.TheVariants.{Done}
 use Rattle.calloop_loop.specs.declared.asks.Answered.{Answered}
 use Rattle.calloop_loop.specs.declared.asks.Asked.{Asked}
-use Rattle.calloop_loop.specs.Askings.{Asks, AskStep, Write, Take, Runs, ask_after, asks_after, all_handed, handed_by, without, taken_from, answers_to, begun_from, last_ticket, stays_on}
-use Rattle.calloop_loop.specs.Held.{Held, HeldStep, Listed, Unlisted, Pend, Asking, Begun, Told, Owe, Paid, Cleared, Warned, StopNoted, IdleIn, IdleNew, IdleOut, IdlesTaken, IdleBegun, held_after}
+use Rattle.calloop_slots.specs.declared.token.RegistrationToken.{RegistrationToken}
+use Rattle.calloop_loop.specs.Askings.{Asks, AskStep, Write, Take, Runs, ask_after, asks_after, all_handed, handed_by, without, taken_from, answers_to, begun_from, last_ticket, none_kept_for, not_kept_for, of_turn, stays_on}
+use Rattle.calloop_loop.specs.Held.{Held, HeldStep, Listed, Unlisted, Pend, Asking, AskingIn, Begun, Told, Owe, Paid, Cleared, Warned, StopNoted, IdleIn, IdleNew, IdleOut, IdlesTaken, IdleBegun, held_after}
 use Rattle.calloop_loop.specs.Machine.{World, IsNew, Change, Put, Claim, Swapped, Polls, Polling, Watching, Counting, Gathered, Appended, Holds, Cut, Ended, world_after, world_after_all, handed_in}
 use Rattle.calloop_loop.specs.Rules.{Run, all_traced}
 use Rattle.calloop_laws.specs.Laws.{how_many, is_number, is_asked_as, is_answered_as, stands_as, times_standing, IsTicketed}
@@ -27,9 +28,16 @@ counted-without {D} n ticket (a ∷ as') =
     elim (nat_eq a.ticket ticket) as (λ b. nat_eq a.ticket ticket ≡ b → how_many (is_answered_as n) (a ∷ as') ≡ how_many (is_answered_as n) (if b then as' else a ∷ without ticket as') + how_many (is_number n) (if b then ticket ∷ [] else taken_from ticket as'))
     [ true ↦ λ e. (let same : a.ticket ≡ ticket = grind (arith, nat_tests) in rw (← same) (omega arith)) | false ↦ λ e. omega (arith, counted-without n ticket as') ] refl
 
-counted-answering : {D : Type 0} (n : ℕ) (o : Option ℕ) (answer : Answer D) → how_many (is_answered_as n) (answers_to o answer) ≡ stands_as n o
-counted-answering n None answer = refl
-counted-answering n (Some ticket) answer = omega arith
+counted-answering : {D : Type 0} (n : ℕ) (o : Option ℕ) (turn : Option RegistrationToken) (answer : Answer D) → how_many (is_answered_as n) (answers_to o turn answer) ≡ stands_as n o
+counted-answering n None turn answer = refl
+counted-answering n (Some ticket) turn answer = omega arith
+
+counted-kept : {D : Type 0} (n : ℕ) (token : RegistrationToken) (as' : List (Answered D)) → how_many (is_answered_as n) (map (not_kept_for token) as') ≡ how_many (is_answered_as n) as'
+counted-kept n token [] = refl
+counted-kept n token (a ∷ as') = rw (counted-kept n token as') refl
+
+tallied_kept : {D I : Type 0} (token : RegistrationToken) (q : Asks D I) (handed : List ℕ) → IsTallied q handed → IsTallied (none_kept_for token q) handed
+tallied_kept token q handed h n = omega (arith, h n, counted-kept n token q.answers)
 
 tallied_ask : {D I : Type 0} (q : Asks D I) (handed : List ℕ) (s : AskStep D I) → IsTallied q handed → IsTallied (ask_after q s) (handed ++ handed_by q s)
 tallied_ask {D} {I} q handed (Write request) h n =
@@ -54,17 +62,18 @@ tallied_begun q (a ∷ as') handed is h n = (let g = h n in omega (arith, rw is 
 
 tallied_step : {D I : Type 0} (k : Held D I) (handed : List ℕ) (s : HeldStep D I) → IsTallied k.asks handed → IsTallied (held_after k s).asks (handed ++ handed_in k s)
 tallied_step k handed (Asking steps) h = tallied_asks k.asks handed steps h
+tallied_step k handed (AskingIn token steps) h = tallied_asks (of_turn token k.asks) handed steps (tallied_kept token k.asks handed h)
 tallied_step k handed (Listed needed token) h = rw (append_nil handed) h
-tallied_step k handed (Unlisted token) h = rw (append_nil handed) h
+tallied_step k handed (Unlisted token) h = rw (append_nil handed) (tallied_kept token k.asks handed h)
 tallied_step k handed (Pend action) h = rw (append_nil handed) h
 tallied_step k handed Begun h = rw (append_nil handed) (tallied_begun k.asks k.asks.written handed refl h)
-tallied_step k handed (Told answer) h = rw (append_nil handed) (λ n. omega (arith, h n, counted-append (is_answered_as n) k.asks.answers (answers_to k.asks.serving answer), counted-answering n k.asks.serving answer))
+tallied_step k handed (Told answer) h = rw (append_nil handed) (λ n. omega (arith, h n, counted-append (is_answered_as n) k.asks.answers (answers_to k.asks.serving k.asks.turn answer), counted-answering n k.asks.serving k.asks.turn answer))
 tallied_step k handed Owe h = rw (append_nil handed) (λ n. omega (arith, h n))
-tallied_step k handed (Paid answer) h = rw (append_nil handed) (λ n. omega (arith, h n, counted-append (is_answered_as n) k.asks.answers (answers_to k.asks.owed answer), counted-answering n k.asks.owed answer))
+tallied_step k handed (Paid answer) h = rw (append_nil handed) (λ n. omega (arith, h n, counted-append (is_answered_as n) k.asks.answers (answers_to k.asks.owed k.asks.turn answer), counted-answering n k.asks.owed k.asks.turn answer))
 tallied_step k handed Cleared h = rw (append_nil handed) (λ n. omega (arith, h n, counted-filter (is_answered_as n) (stays_on k.asks.taken_up_at k.asks.cleared_at (last_ticket k.asks.idles)) k.asks.answers))
 tallied_step k handed (Warned kept told) h = rw (append_nil handed) h
 tallied_step k handed (StopNoted note) h = rw (append_nil handed) h
-tallied_step {D} k handed (IdleIn idle) h = rw (append_nil handed) (λ n. omega (arith, h n, counted-append (is_answered_as n) k.asks.answers (answers_to k.asks.serving Done), counted-answering {D = D} n k.asks.serving Done))
+tallied_step {D} k handed (IdleIn idle) h = rw (append_nil handed) (λ n. omega (arith, h n, counted-append (is_answered_as n) k.asks.answers (answers_to k.asks.serving k.asks.turn Done), counted-answering {D = D} n k.asks.serving k.asks.turn Done))
 tallied_step k handed (IdleNew idle) h = rw (append_nil handed) (λ n. omega (arith, h n, next_number n k.asks.next))
 tallied_step k handed (IdleOut ticket) h = rw (append_nil handed) h
 tallied_step k handed IdlesTaken h = rw (append_nil handed) h

@@ -24,7 +24,7 @@ use Rattle.calloop_loop.specs.declared.LoopAnswer.TheVariants.{Inserted, Dispatc
 use Rattle.calloop_loop.specs.declared.asks.Answer.TheVariants.{Done}
 use Rattle.calloop_loop.specs.declared.asks.Request.TheVariants.{Update}
 use Rattle.calloop_loop.specs.Askings.{Asks, Write}
-use Rattle.calloop_loop.specs.Held.{Listed, Pend, Asking, Begun, Told, Cleared, IdlesTaken}
+use Rattle.calloop_loop.specs.Held.{Listed, Pend, AskingIn, Begun, Told, Cleared, IdlesTaken}
 use Rattle.calloop_loop.specs.Machine.{Claim, Put, Polls, Polling, Watching, Counting, Holds, Gathered, Cut, Ended}
 use Rattle.calloop_loop.specs.Rules.{all_traced}
 use Rattle.calloop_laws.specs.Wrong.{first_token, first_registration}
@@ -82,7 +82,7 @@ failing_dispatch name =
     ∷ Put 0 InTurn
     ∷ Polls []
     ∷ Ended
-    ∷ Holds (Asking (Write (Update first_registration) ∷ []))
+    ∷ Holds (AskingIn first_registration (Write (Update first_registration) ∷ []))
     ∷ [])
     ∷ (Holds Begun ∷ Holds (Pend Reregister) ∷ Holds (Told Done) ∷ [])
     ∷ []
@@ -101,7 +101,7 @@ dispatch_of_the_rest name =
     ∷ (Polling tt ∷ Watching (with_note (Looked false) (marks_taken [] (after_count 0 (behind_the_failure name).poll)).watch) ∷ [])
     ∷ (Gathered [] [] 6 ∷ [])
     ∷ []
-    ∷ (Cut (Some 0) ∷ Put 0 InTurn ∷ Polls [] ∷ Ended ∷ Holds (Asking []) ∷ [])
+    ∷ (Cut (Some 0) ∷ Put 0 InTurn ∷ Polls [] ∷ Ended ∷ Holds (AskingIn first_registration []) ∷ [])
     ∷ []
     ∷ (Holds (Pend Continue) ∷ [])
     ∷ (Put 0 (Source tt) ∷ [])

@@ -26,7 +26,7 @@ use Rattle.calloop_loop.specs.declared.asks.Answer.TheVariants.{Removed}
 use Rattle.calloop_loop.specs.Askings.{Asks, Reaches, Runs, no_asks}
 use Rattle.calloop_laws.specs.EveryRun.{LoopRun}
 use Rattle.calloop_laws.specs.Laws.{moments_of, changes_of}
-use Rattle.calloop_loop.specs.Held.{Listed, Unlisted, Pend, Asking, Cleared, Warned, Paid, IdlesTaken}
+use Rattle.calloop_loop.specs.Held.{Listed, Unlisted, Pend, AskingIn, Cleared, Warned, Paid, IdlesTaken}
 use Rattle.calloop_loop.specs.Ledgers.{new_ledger}
 use Rattle.calloop_loop.specs.Machine.{World, Change, Claim, Put, Swapped, Polls, Polling, Watching, Counting, Holds, Gathered, Cut, Ended}
 use Rattle.calloop_loop.specs.Rules.{all_traced}
@@ -129,7 +129,7 @@ of_the_dispatch name =
     ∷ (Polling tt ∷ Watching (with_note (Looked false) (record { name = name; notes = Counted 0 ∷ Marked [] ∷ [] })) ∷ [])
     ∷ (Gathered [] [] 5 ∷ [])
     ∷ []
-    ∷ (Cut (Some 0) ∷ Put 0 InTurn ∷ Polls (Call 0 five ∷ []) ∷ Ended ∷ Holds (Asking []) ∷ [])
+    ∷ (Cut (Some 0) ∷ Put 0 InTurn ∷ Polls (Call 0 five ∷ []) ∷ Ended ∷ Holds (AskingIn first_registration []) ∷ [])
     ∷ []
     ∷ (Holds (Pend Continue) ∷ Put 0 Vacant ∷ [])
     ∷ (Polls (Cancel 0 ∷ [])

@@ -14,12 +14,13 @@ use Rattle.calloop_sources.specs.declared.sources.source.PostAction.TheVariants.
 use Rattle.calloop_poll.specs.sys.Polls.{posted_event}
 use Rattle.calloop_loop.specs.declared.LoopAnswer.TheVariants.{Dispatched}
 use Rattle.calloop_loop.specs.declared.LoopCall.TheVariants.{Dispatch}
-use Rattle.calloop_loop.specs.Held.{Pend, Asking, Cleared, IdlesTaken}
+use Rattle.calloop_loop.specs.Held.{Pend, AskingIn, Cleared, IdlesTaken}
 use Rattle.calloop_loop.specs.Machine.{Put, Polls, Polling, Watching, Counting, Holds, Gathered, Cut, Ended}
 use Rattle.calloop_laws.specs.Laws.{moments_of, changes_of}
 use Rattle.calloop_loop.specs.Ledgers.{new_ledger}
 use Rattle.calloop_loop.specs.Rules.{all_traced}
 use Rattle.calloop_laws.specs.Unserved.{SmallView}
+use Rattle.calloop_laws.specs.Wrong.{first_registration}
 use Rattle.calloop_laws.specs.WrongRuns.{SmallChange, SmallRun, SmallWorld, untouched_poll, untouched_held}
 use Rattle.calloop_laws.specs.Histories.{Happening, Unseen, Noted}
 
@@ -90,7 +91,7 @@ of_a_ring name =
     ∷ (Polling tt ∷ Watching (with_note (Looked true) (record { name = name; notes = Counted 1 ∷ Marked [] ∷ [] })) ∷ [])
     ∷ (Gathered (0 ∷ []) [] 5 ∷ [])
     ∷ []
-    ∷ (Cut (Some 0) ∷ Put 0 InTurn ∷ Polls [] ∷ Ended ∷ Holds (Asking []) ∷ [])
+    ∷ (Cut (Some 0) ∷ Put 0 InTurn ∷ Polls [] ∷ Ended ∷ Holds (AskingIn first_registration []) ∷ [])
     ∷ []
     ∷ (Holds (Pend Continue) ∷ [])
     ∷ (Put 0 (Source tt) ∷ [])

@@ -21,7 +21,7 @@ use Rattle.calloop_loop.specs.declared.LoopAnswer.TheVariants.{Inserted, Dispatc
 use Rattle.calloop_loop.specs.declared.asks.Answer.TheVariants.{Removed}
 use Rattle.calloop_loop.specs.Askings.{Asks, Reaches}
 use Rattle.calloop_laws.specs.EveryRun.{LoopRun}
-use Rattle.calloop_loop.specs.Held.{Unlisted, Pend, Asking, Cleared, Warned, Paid, IdlesTaken}
+use Rattle.calloop_loop.specs.Held.{Unlisted, Pend, AskingIn, Cleared, Warned, Paid, IdlesTaken}
 use Rattle.calloop_laws.specs.Laws.{moments_of, changes_of}
 use Rattle.calloop_loop.specs.Ledgers.{TimerCall}
 use Rattle.calloop_loop.specs.Machine.{World, Put, Polls, Polling, Watching, Counting, Holds, Gathered, Cut, Ended}
@@ -68,7 +68,7 @@ of_the_first_call name =
     ∷ Put 0 InTurn
     ∷ Polls (Call 0 five ∷ ArmAgain 0 ten first_token ∷ [])
     ∷ Ended
-    ∷ Holds (Asking [])
+    ∷ Holds (AskingIn first_registration [])
     ∷ [])
     ∷ []
     ∷ (Holds (Pend Continue) ∷ [])
@@ -89,7 +89,7 @@ of_the_second_call name =
     ∷ (Polling tt ∷ Watching (with_note (Looked false) (marks_taken [] (after_count 0 (behind_the_first_call name).poll)).watch) ∷ [])
     ∷ (Gathered [] [] 10 ∷ [])
     ∷ []
-    ∷ (Cut (Some 0) ∷ Put 0 InTurn ∷ Polls (Call 0 ten ∷ []) ∷ Ended ∷ Holds (Asking []) ∷ [])
+    ∷ (Cut (Some 0) ∷ Put 0 InTurn ∷ Polls (Call 0 ten ∷ []) ∷ Ended ∷ Holds (AskingIn first_registration []) ∷ [])
     ∷ []
     ∷ (Holds (Pend Continue) ∷ Put 0 Vacant ∷ [])
     ∷ (Polls (Cancel 0 ∷ [])

@@ -16,8 +16,9 @@ use Rattle.calloop_ends.specs.cell.CellSources.{OpenTurns}
 use Rattle.calloop_ends.specs.declared.ping.source.PingError.{PingError}
 use Rattle.calloop_ends.specs.ping.Pings.{ping_meaning, tally_opened}
 use Rattle.calloop_loop.specs.Askings.{Asks, Runs}
-use Rattle.calloop_loop.specs.Held.{Pend, Asking, Cleared, IdlesTaken}
+use Rattle.calloop_loop.specs.Held.{Pend, AskingIn, Cleared, IdlesTaken}
 use Rattle.calloop_loop.specs.Machine.{View, Change, Put, Polls, Polling, Watching, Counting, Holds, Gathered, Cut, Ended}
+use Rattle.calloop_laws.specs.Wrong.{first_registration}
 use Rattle.calloop_laws.specs.WrongRuns.{untouched_poll, untouched_held}
 use Rattle.calloop_laws.specs.Called.{PingCalling}
 
@@ -92,7 +93,7 @@ up_to_its_turn name =
     ∷ []
 
 abbrev pub its_turn : List RingChange
-its_turn = Cut (Some 0) ∷ Put 0 InTurn ∷ Polls (TakePass ∷ []) ∷ Ended ∷ Holds (Asking []) ∷ []
+its_turn = Cut (Some 0) ∷ Put 0 InTurn ∷ Polls (TakePass ∷ []) ∷ Ended ∷ Holds (AskingIn first_registration []) ∷ []
 
 abbrev pub behind_its_turn : Book → List (List RingChange)
 behind_its_turn name =

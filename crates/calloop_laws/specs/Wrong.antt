@@ -165,7 +165,7 @@ abbrev pub answered_twice : Asks (Unit {0}) (Unit {0})
 answered_twice =
     record no_asks {
       next = 1;
-      answers = record { ticket = 0; answer = Done } ∷ record { ticket = 0; answer = Done } ∷ [];
+      answers = record { ticket = 0; answer = Done; kept_for = None } ∷ record { ticket = 0; answer = Done; kept_for = None } ∷ [];
     }
 
 -- two requests under one ticket
@@ -234,8 +234,8 @@ with_one_never_made =
 -- an answer stands under a ticket whose request is still being carried out; below, under one whose answer is still owed
 abbrev pub answered_while_served : Asks (Unit {0}) (Unit {0})
 answered_while_served =
-    record no_asks { next = 1; answers = record { ticket = 0; answer = Done } ∷ []; serving = Some 0 }
+    record no_asks { next = 1; answers = record { ticket = 0; answer = Done; kept_for = None } ∷ []; serving = Some 0 }
 
 abbrev pub answered_while_owed : Asks (Unit {0}) (Unit {0})
 answered_while_owed =
-    record no_asks { next = 1; answers = record { ticket = 0; answer = Done } ∷ []; owed = Some 0 }
+    record no_asks { next = 1; answers = record { ticket = 0; answer = Done; kept_for = None } ∷ []; owed = Some 0 }

@@ -345,9 +345,9 @@ second_is_answered_twice name =
     (record no_asks {
       next = 2;
       answers =
-          record { ticket = 0; answer = Done }
-          ∷ record { ticket = 1; answer = Done }
-          ∷ record { ticket = 1; answer = Done }
+          record { ticket = 0; answer = Done; kept_for = None }
+          ∷ record { ticket = 1; answer = Done; kept_for = None }
+          ∷ record { ticket = 1; answer = Done; kept_for = None }
           ∷ [];
     })
     []

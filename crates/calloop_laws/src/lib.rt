@@ -270,9 +270,9 @@ pub fn busy_runs_that_there_are()
     ensures rest { (name : Book)
         → (behind_the_failure name).poll.batch ≡ polled_events two_found_but_one }
     ensures answered { (name : Book) → (behind_the_failure name).held.asks.answers
-        ≡ record { ticket = 0; answer = Done } ∷ [] }
+        ≡ record { ticket = 0; answer = Done; kept_for = None } ∷ [] }
     ensures outlasts { (name : Book) → (busy_end name).held.asks.answers
-        ≡ record { ticket = 0; answer = Done } ∷ [] }
+        ≡ record { ticket = 0; answer = Done; kept_for = None } ∷ [] }
     ensures socket { (name : Book) → watched_at (key_of first_token) (busy_end name).poll.table
         ≡ Some for_reading }
     ensures over { (name : Book) → (busy_end name).poll.batch ≡ [] }

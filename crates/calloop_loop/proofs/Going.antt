@@ -24,8 +24,8 @@ use Rattle.calloop_sources.specs.sources.Meanings.{Meaning, Does}
 use Rattle.calloop_loop.specs.declared.asks.Answer.TheVariants.{Removed as RemovedAnswer}
 use Rattle.calloop_loop.specs.declared.asks.Asked.{Asked}
 use Rattle.calloop_loop.specs.declared.asks.Idling.{Idling as Waiter}
-use Rattle.calloop_loop.specs.Held.{HeldStep, Unlisted, Pend, Asking, Paid, Cleared, Warned, with_warning, IdlesTaken, IdleBegun, held_after}
-use Rattle.calloop_loop.specs.Askings.{Asks, AskStep, Write, Take, Runs, Reaches, ask_after, asks_after, of_turn, without_old, idle_begun, running_of}
+use Rattle.calloop_loop.specs.Held.{HeldStep, Unlisted, Pend, Asking, AskingIn, Paid, Cleared, Warned, with_warning, IdlesTaken, IdleBegun, held_after}
+use Rattle.calloop_loop.specs.Askings.{Asks, AskStep, Runs, Reaches, asks_after, of_turn, without_old, idle_begun, running_of}
 use Rattle.calloop_loop.specs.Machine.{with_marks_taken, View, Change, Put, Polls, Polling, Watching, Counting, Holds, Gathered, Cut, Ended, all_viewed, AllFit, IsFull, Appended, after_change}
 use Rattle.calloop_poll.specs.sys.TakenMarks.{AreTaken}
 use Rattle.calloop_wake.specs.Watches.{with_note}
@@ -70,21 +70,6 @@ pub length-cut : {P : Type 0} (v : PollView P) (e : Pending) → Some e ≡ head
 length-cut v e first =
     let f = cons_of_head v.batch e first in
     ap (λ es. length (cut_from es v).batch + 1) f.1 ∙ length-begun e v f.0 f.1 ∙ sym (ap length f.1)
-
--- what a callback asks for leaves whose turn it is
-turn_stays : {D I : Type 0} (q : Asks D I) (steps : List (AskStep D I)) → (asks_after q steps).turn ≡ q.turn
-turn_stays q [] = refl
-turn_stays q (Write request ∷ ss) = turn_stays (ask_after q (Write request)) ss
-turn_stays q (Take ticket ∷ ss) = turn_stays (ask_after q (Take ticket)) ss
-
-turn_kept : {D I : Type 0} (q : Asks D I) (steps : List (AskStep D I)) → record (asks_after q steps) { turn = q.turn } ≡ asks_after q steps
-turn_kept q steps = ap (λ o. record (asks_after q steps) { turn = o }) (sym (turn_stays q steps))
-
--- and is the same for anyone's turn
-turn_passes : {D I : Type 0} (token : RegistrationToken) (q : Asks D I) (steps : List (AskStep D I)) → asks_after (of_turn token q) steps ≡ of_turn token (asks_after q steps)
-turn_passes token q [] = refl
-turn_passes token q (Write request ∷ ss) = turn_passes token (ask_after q (Write request)) ss
-turn_passes token q (Take ticket ∷ ss) = turn_passes token (ask_after q (Take ticket)) ss
 
 -- a source was put back, or handed back
 pub was_in_turn : {D : Type 0} (b : Bool) (d : D) → None ≡ (if b then None else Some d) → b ≡ true
@@ -200,26 +185,25 @@ module _ {D I P X : Type 0} (M : Meaning D P (Lent X (Asks D I))) (runs : Runs D
       (from_cons v.poll.batch f.0 e v x (Cut None ∷ Ended ∷ []) (Cutting x) f.1 (none_named e v x (content_at v.slots (registration_of e.token)) none)) (tt, (tt, tt)) refl
 
   -- an event whose token names a source has its turn
-  pub turned : (e : Pending) (v : View D I P) (d d' : D) (answer : Result PostAction Error) (q p' : PollView P) (x x' : X) (given asked back : Asks D I) → Some e ≡ head_of v.poll.batch → Some d ≡ source_of (content_at v.slots (registration_of e.token)) → q ≡ after_cut v.poll
-      → given ≡ of_turn (registration_of e.token) v.held.asks → back ≡ record asked { turn = v.held.asks.turn }
+  pub turned : (e : Pending) (v : View D I P) (d d' : D) (answer : Result PostAction Error) (q p' : PollView P) (x x' : X) (given asked : Asks D I) → Some e ≡ head_of v.poll.batch → Some d ≡ source_of (content_at v.slots (registration_of e.token)) → q ≡ after_cut v.poll
+      → given ≡ of_turn (registration_of e.token) v.held.asks
       → Does O M d q (Turned e.readiness e.token (lend x given answer x' asked)) d' p' → Reaches given asked
-      → Goes M runs O (Cutting x) (Serving (registration_of e.token) d' answer x') v (record v { slots = with_change (with_content InTurn) v.slots e.token.slot; poll = with_pass None p'; held = record v.held { asks = back } })
-  turned e v d d' answer q p' x x' given asked back first named_as is begun ended u asks =
+      → Goes M runs O (Cutting x) (Serving (registration_of e.token) d' answer x') v (record v { slots = with_change (with_content InTurn) v.slots e.token.slot; poll = with_pass None p'; held = record v.held { asks = asked } })
+  turned e v d d' answer q p' x x' given asked first named_as is begun u asks =
       let f = cons_of_head v.poll.batch e first in
       let token = registration_of e.token in
       let full = source_is (content_at v.slots token) d (sym named_as) in
       let t = subst (λ (r : PollView P). Does O M d r (Turned e.readiness e.token (lend x given answer x' asked)) d' p') is u in
       let a : Doing D X = Serving token d' answer x' in
-      let became : asked ≡ of_turn token (asks_after v.held.asks asks.steps) = asks.is ∙ ap (λ (r : Asks D I). asks_after r asks.steps) begun ∙ turn_passes token v.held.asks asks.steps in
-      let kept : back ≡ asks_after v.held.asks asks.steps = ended ∙ ap (λ (r : Asks D I). record r { turn = v.held.asks.turn }) became ∙ turn_kept v.held.asks asks.steps in
-      let cs : List (Change D I P) = Cut (Some e.token.slot) ∷ Put e.token.slot InTurn ∷ Polls t.0 ∷ Ended ∷ Holds (Asking asks.steps) ∷ [] in
-      let does = subst (λ (r : Asks D I). M.does d (after_cut v.poll) (Turned e.readiness e.token (lend x r answer x' (of_turn token (asks_after v.held.asks asks.steps)))) t.0 d') begun
+      let became : asked ≡ asks_after (of_turn token v.held.asks) asks.steps = asks.is ∙ ap (λ (r : Asks D I). asks_after r asks.steps) begun in
+      let cs : List (Change D I P) = Cut (Some e.token.slot) ∷ Put e.token.slot InTurn ∷ Polls t.0 ∷ Ended ∷ Holds (AskingIn token asks.steps) ∷ [] in
+      let does = subst (λ (r : Asks D I). M.does d (after_cut v.poll) (Turned e.readiness e.token (lend x r answer x' (asks_after (of_turn token v.held.asks) asks.steps))) t.0 d') begun
       (subst (λ (r : Asks D I). M.does d (after_cut v.poll) (Turned e.readiness e.token (lend x given answer x' r)) t.0 d') became t.1) in
-      goes_by (Cutting x) a cs v (record v { slots = with_change (with_content InTurn) v.slots e.token.slot; poll = with_pass None p'; held = record v.held { asks = back } })
+      goes_by (Cutting x) a cs v (record v { slots = with_change (with_content InTurn) v.slots e.token.slot; poll = with_pass None p'; held = record v.held { asks = asked } })
       (from_cons v.poll.batch f.0 e v x cs a f.1 (rw full (d', answer, t.0, x', asks.steps, does, refl, refl)))
       (tt, (full_named v.slots (registration_of e.token) (ap is_empty full), (t.2.0, (tt, (tt, tt)))))
-      (ap (λ (r : Asks D I). record v { slots = with_change (with_content InTurn) v.slots e.token.slot; poll = with_pass None p'; held = record v.held { asks = r } }) kept
-      ∙ ap (λ (r : PollView P). record v { slots = with_change (with_content InTurn) v.slots e.token.slot; poll = with_pass None r; held = record v.held { asks = asks_after v.held.asks asks.steps } }) t.2.1)
+      (ap (λ (r : Asks D I). record v { slots = with_change (with_content InTurn) v.slots e.token.slot; poll = with_pass None p'; held = record v.held { asks = r } }) became
+      ∙ ap (λ (r : PollView P). record v { slots = with_change (with_content InTurn) v.slots e.token.slot; poll = with_pass None r; held = record v.held { asks = asks_after (of_turn token v.held.asks) asks.steps } }) t.2.1)
 
   -- what was asked for is carried out
   pub turn_served : (token : RegistrationToken) (d : D) (answer : Result PostAction Error) (x : X) (css : List (List (Change D I P))) (v u : View D I P) → AllServed M O v css → u ≡ after_changes v css → Goes M runs O (Serving token d answer x) (Ending token d answer x) v u

@@ -8,6 +8,7 @@ use Rattle.calloop_slots.specs.declared.error.Error.{Error}
 use Rattle.calloop_slots.specs.declared.error.Error.TheVariants.{InvalidToken}
 use Rattle.calloop_slots.specs.declared.token.TokenFactory.{TokenFactory}
 use Rattle.calloop_slots.specs.declared.token.RegistrationToken.{RegistrationToken}
+use Rattle.calloop_slots.specs.declared.wheel.Instant.{Instant}
 use Rattle.calloop_slots.specs.declared.list.Content.{Content}
 use Rattle.calloop_slots.specs.declared.list.Content.TheVariants.{Vacant, Source, InTurn}
 use Rattle.calloop_slots.specs.declared.list.Slot.{Slot}
@@ -31,7 +32,7 @@ use Rattle.calloop_loop.proofs.Going.{full_named}
 use Rattle.calloop_loop.specs.Roles.{only, is_callers, is_adapter}
 use Rattle.calloop_loop.proofs.Roles.{only_source}
 use Rattle.calloop_loop.specs.Registering.{loop_call_of, loop_answer_of}
-use Rattle.calloop_loop.specs.Rules.{Did, Case, Once, Outcome, ByOne, RegisteredBy, listing_of, unlisting_of, CannotInsert, InsertedBy, EnabledBy, UpdatedBy, DisabledBy, RemovedBy, RemovedIn, ReleasedBy, ExchangedIn, ExchangedBy, IdleInsertedBy, AskedIn, factory_of}
+use Rattle.calloop_loop.specs.Rules.{Did, Case, Once, Outcome, ByOne, RegisteredBy, RearmedBy, DeadlineSetBy, listing_of, unlisting_of, CannotInsert, InsertedBy, EnabledBy, UpdatedBy, DisabledBy, RemovedBy, RemovedIn, ReleasedBy, ExchangedIn, ExchangedBy, IdleInsertedBy, AskedIn, factory_of}
 
 -- a slot holds what is put into it last
 pub changed_twice : {D : Type 0} (c d : Content D) (ss : List (Slot D)) (i : ℕ) → with_change (with_content c) (with_change (with_content d) ss i) i ≡ with_change (with_content c) ss i
@@ -114,6 +115,13 @@ module _ {D I P X : Type 0} (M : Meaning D P (Lent X (Asks D I))) (runs : Runs D
   pub disabled : (token : RegistrationToken) (d e : D) (answer : Outcome) (u : View D I P) → only (is_callers M) (content_at v.slots token) ≡ Source d
       → ByOne O (λ f a steps g. M.does f v.poll (Unregistered a) steps g) (unlisting_of token) d answer e (out token) u → Did (Case M runs O (DisableCall token) (Disabled answer)) v (back token e u)
   disabled token d e answer u is r = asked (is_callers M) (λ f a steps g. M.does f v.poll (Unregistered a) steps g) (unlisting_of token) (DisabledBy M token answer) token d e answer u (λ cs h. h) is r
+
+  pub not_set : (token : RegistrationToken) (deadline : Instant) → None ≡ source_of (only (is_callers M) (content_at v.slots token)) → Did (Once O (DeadlineSetBy M token deadline (Err InvalidToken))) v v
+  not_set token deadline h = one_step (DeadlineSetBy M token deadline (Err InvalidToken)) [] v (none_asked _ _ token (only (is_callers M) (content_at v.slots token)) h) tt refl
+
+  pub deadline_set : (token : RegistrationToken) (deadline : Instant) (d e : D) (answer : Outcome) (u : View D I P) → only (is_callers M) (content_at v.slots token) ≡ Source d
+      → ByOne O (RearmedBy M deadline token (is_listed token v.held.lifecycle) v.poll) (listing_of M token) d answer e (out token) u → Did (Once O (DeadlineSetBy M token deadline answer)) v (back token e u)
+  deadline_set token deadline d e answer u is r = asked (is_callers M) (RearmedBy M deadline token (is_listed token v.held.lifecycle) v.poll) (listing_of M token) (DeadlineSetBy M token deadline answer) token d e answer u (λ cs h. h) is r
 
   none_removed : (token : RegistrationToken) (c : Content D) → None ≡ source_of c → RemovedIn M token c None v []
   none_removed token Vacant h = (refl, refl)

@@ -14,3 +14,5 @@ pub mod RestOfLists
 pub mod Failing
 pub mod BlockedRounds
 pub mod Limits
+pub mod Rearming
+pub mod Keeping

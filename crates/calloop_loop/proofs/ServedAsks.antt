@@ -13,7 +13,7 @@ use Rattle.calloop_loop.specs.declared.asks.Answer.{Answer}
 use Rattle.calloop_loop.specs.declared.asks.Asked.{Asked}
 use Rattle.calloop_loop.specs.declared.asks.Idling.{Idling as Waiter}
 use Rattle.calloop_loop.specs.declared.asks.Request.{Request}
-use Rattle.calloop_loop.specs.declared.asks.Request.TheVariants.{Insert as AskInsert, Enable as AskEnable, Update as AskUpdate, Disable as AskDisable, Remove as AskRemove, Idle as AskIdle, Cancel as AskCancel}
+use Rattle.calloop_loop.specs.declared.asks.Request.TheVariants.{Insert as AskInsert, Enable as AskEnable, Update as AskUpdate, Disable as AskDisable, SetDeadline as AskSetDeadline, Remove as AskRemove, Idle as AskIdle, Cancel as AskCancel}
 use Rattle.calloop_loop.specs.declared.registering.RegistrationCall.{RegistrationCall}
 use Rattle.calloop_loop.specs.declared.registering.RegistrationCall.TheVariants.{Enable, Update, Disable}
 use Rattle.calloop_loop.specs.Askings.{Asks, AskStep, Write, Take, Reaches, ask_after, asks_after, all_but_first, begun_from, idle_begun, is_other_idle, request_of, running_of}
@@ -79,8 +79,8 @@ module _ {D I P X : Type 0} (M : Meaning D P (Lent X (Asks D I))) (O : Outside P
     pub written : u.held.asks.written ≡ v.held.asks.written
     pub running : length u.held.asks.running ≤ length v.held.asks.running
 
-  still_steady : (v u : View D I P) → u.poll.batch ≡ v.poll.batch → u.held.asks ≡ v.held.asks → Steady v u
-  still_steady v u batch asks = record { batch = batch; written = ap (λ (q : Asks D I). q.written) asks; running = omega (arith, ap (λ (q : Asks D I). length q.running) asks) }
+  still_steady : (v u : View D I P) → u.poll.batch ≡ v.poll.batch → u.held.asks.written ≡ v.held.asks.written → u.held.asks.running ≡ v.held.asks.running → Steady v u
+  still_steady v u batch written running = record { batch = batch; written = written; running = omega (arith, ap (λ (l : List (Waiter I)). length l) running) }
 
   shorter : (ticket : ℕ) (is : List (Waiter I)) → length (filter (is_other_idle ticket) is) ≤ length is
   shorter ticket [] = omega arith
@@ -89,20 +89,20 @@ module _ {D I P X : Type 0} (M : Meaning D P (Lent X (Asks D I))) (O : Outside P
       [ true ↦ (let h = shorter ticket is in omega (arith, h)) | false ↦ (let h = shorter ticket is in omega (arith, h)) ]
 
   inserted_steady : (v : View D I P) (d : D) (answer : Result RegistrationToken (InsertError D)) (cs : List (Change D I P)) → InsertedBy M d answer v cs → Steady v (all_viewed v cs)
-  inserted_steady v d (Ok token) cs h = rw h.6 (still_steady v _ (batch-stepped v.poll h.4) refl)
-  inserted_steady v d (Err refused) cs (inl h) = rw h.2 (still_steady v v refl refl)
-  inserted_steady v d (Err refused) cs (inr h) = rw h.4 (still_steady v _ (batch-stepped v.poll h.2) refl)
+  inserted_steady v d (Ok token) cs h = rw h.6 (still_steady v _ (batch-stepped v.poll h.4) refl refl)
+  inserted_steady v d (Err refused) cs (inl h) = rw h.2 (still_steady v v refl refl refl)
+  inserted_steady v d (Err refused) cs (inr h) = rw h.4 (still_steady v _ (batch-stepped v.poll h.2) refl refl)
 
   asked_steady : (v : View D I P) (R : D → Outcome → List (PollStep P) → D → Type 0) (noted : D → Outcome → HeldStep D I) (token : RegistrationToken) (answer : Outcome) (cs : List (Change D I P)) (c : Content D)
-      → ((d : D) → (held_after v.held (noted d answer)).asks ≡ v.held.asks) → AskedIn R noted token c answer cs → Steady v (all_viewed v cs)
-  asked_steady v R noted token answer cs Vacant same h = rw h.1 (still_steady v v refl refl)
-  asked_steady v R noted token answer cs InTurn same h = rw h.1 (still_steady v v refl refl)
-  asked_steady v R noted token answer cs (Source d) same h = rw h.3 (still_steady v _ (batch-stepped v.poll h.1) (same d))
+      → ((d : D) → ((held_after v.held (noted d answer)).asks.written ≡ v.held.asks.written) × ((held_after v.held (noted d answer)).asks.running ≡ v.held.asks.running)) → AskedIn R noted token c answer cs → Steady v (all_viewed v cs)
+  asked_steady v R noted token answer cs Vacant same h = rw h.1 (still_steady v v refl refl refl)
+  asked_steady v R noted token answer cs InTurn same h = rw h.1 (still_steady v v refl refl refl)
+  asked_steady v R noted token answer cs (Source d) same h = rw h.3 (still_steady v _ (batch-stepped v.poll h.1) (same d).0 (same d).1)
 
   removed_steady : (v : View D I P) (token : RegistrationToken) (answer : Option D) (cs : List (Change D I P)) (c : Content D) → RemovedIn M token c answer v cs → Steady v (all_viewed v cs)
-  removed_steady v token answer cs Vacant h = rw h.1 (still_steady v v refl refl)
-  removed_steady v token answer cs InTurn h = rw h.1 (still_steady v v refl refl)
-  removed_steady v token answer cs (Source d) h = rw h.6 (still_steady v _ (batch-stepped v.poll h.3) refl)
+  removed_steady v token answer cs Vacant h = rw h.1 (still_steady v v refl refl refl)
+  removed_steady v token answer cs InTurn h = rw h.1 (still_steady v v refl refl refl)
+  removed_steady v token answer cs (Source d) h = rw h.6 (still_steady v _ (batch-stepped v.poll h.3) refl refl)
 
   own_or : {A B G : Type 0} (c : Content D) → (A → G) → (B → G) → OwnOr c A B → G
   own_or InTurn f g h = f h
@@ -113,9 +113,10 @@ module _ {D I P X : Type 0} (M : Meaning D P (Lent X (Asks D I))) (O : Outside P
   told_steady v ds cs answer is h = rw (is, viewed-append v ds (Holds (Told answer) ∷ [])) (record { batch = h.batch; written = h.written; running = h.running })
 
   served_as_steady : (v : View D I P) (request : Request D I) (answer : Outcome) (cs : List (Change D I P)) → ServedAs M request answer v cs → Steady v (all_viewed v cs)
-  served_as_steady v (AskEnable token) answer cs h = own_or (content_at v.slots token) (λ o. rw o.1 (still_steady v v refl refl)) (λ o. asked_steady v _ _ token answer cs (only (is_callers M) (content_at v.slots token)) (λ d. refl) o) h
-  served_as_steady v (AskUpdate token) answer cs h = own_or (content_at v.slots token) (λ o. rw o.1 (still_steady v _ refl refl)) (λ o. asked_steady v _ _ token answer cs (only (is_callers M) (content_at v.slots token)) (λ d. refl) o) h
-  served_as_steady v (AskDisable token) answer cs h = own_or (content_at v.slots token) (λ o. rw o.1 (still_steady v _ refl refl)) (λ o. asked_steady v _ _ token answer cs (only (is_callers M) (content_at v.slots token)) (λ d. refl) o) h
+  served_as_steady v (AskEnable token) answer cs h = own_or (content_at v.slots token) (λ o. rw o.1 (still_steady v v refl refl refl)) (λ o. asked_steady v _ _ token answer cs (only (is_callers M) (content_at v.slots token)) (λ d. (refl, refl)) o) h
+  served_as_steady v (AskUpdate token) answer cs h = own_or (content_at v.slots token) (λ o. rw o.1 (still_steady v _ refl refl refl)) (λ o. asked_steady v _ _ token answer cs (only (is_callers M) (content_at v.slots token)) (λ d. (refl, refl)) o) h
+  served_as_steady v (AskDisable token) answer cs h = own_or (content_at v.slots token) (λ o. rw o.1 (still_steady v _ refl refl refl)) (λ o. asked_steady v _ _ token answer cs (only (is_callers M) (content_at v.slots token)) (λ d. (refl, refl)) o) h
+  served_as_steady v (AskSetDeadline token deadline) answer cs h = own_or (content_at v.slots token) (λ o. rw o.1 (still_steady v v refl refl refl)) (λ o. asked_steady v _ _ token answer cs (only (is_callers M) (content_at v.slots token)) (λ d. (refl, refl)) o) h
   served_as_steady v (AskInsert d) answer cs h = absurd h
   served_as_steady v (AskRemove token) answer cs h = absurd h
   served_as_steady v (AskIdle idle) answer cs h = absurd h
@@ -126,6 +127,7 @@ module _ {D I P X : Type 0} (M : Meaning D P (Lent X (Asks D I))) (O : Outside P
   served_steady v (AskEnable token) cs h = told_steady v h.1 cs _ h.3 (served_as_steady v (AskEnable token) h.0 h.1 h.2)
   served_steady v (AskUpdate token) cs h = told_steady v h.1 cs _ h.3 (served_as_steady v (AskUpdate token) h.0 h.1 h.2)
   served_steady v (AskDisable token) cs h = told_steady v h.1 cs _ h.3 (served_as_steady v (AskDisable token) h.0 h.1 h.2)
+  served_steady v (AskSetDeadline token deadline) cs h = told_steady v h.1 cs _ h.3 (served_as_steady v (AskSetDeadline token deadline) h.0 h.1 h.2)
   served_steady v (AskRemove token) cs h =
       own_or (content_at v.slots token) (λ o. rw o (record { batch = refl; written = refl; running = omega arith })) (λ o. told_steady v o.1 cs _ o.3 (removed_steady v token o.0 o.1 (only (is_callers M) (content_at v.slots token)) o.2)) h
   served_steady v (AskIdle idle) cs h = rw h (record { batch = refl; written = refl; running = omega arith })

@@ -14,6 +14,7 @@ use Rattle.std.specs.Prelude.{
   ◌++◌,
   slice_get,
   filter,
+  map,
   not,
   nat_eq,
   nat_le,
@@ -25,6 +26,8 @@ use Rattle.std.specs.Prelude.{
   Option,
   Some,
   None,
+  is_some,
+  false,
   if◌then◌else◌,
 }
 use Rattle.std.specs.List.{remove}
@@ -34,7 +37,7 @@ use Rattle.calloop_slots.specs.declared.error.Error.{Error}
 use Rattle.calloop_slots.specs.declared.error.Error.TheVariants.{OutOfMemory, TooManyTickets}
 use Rattle.calloop_loop.specs.declared.asks.Request.{Request}
 use Rattle.calloop_loop.specs.declared.asks.Answer.{Answer}
-use Rattle.calloop_loop.specs.declared.asks.Answer.TheVariants.{Done}
+use Rattle.calloop_loop.specs.declared.asks.Answer.TheVariants.{Done, Inserted, NotInserted, Removed, Refused}
 use Rattle.calloop_loop.specs.declared.asks.Asked.{Asked}
 use Rattle.calloop_loop.specs.declared.asks.Answered.{Answered}
 use Rattle.calloop_loop.specs.declared.asks.Idling.{Idling}
@@ -57,7 +60,7 @@ pub record Asks (D I : Type 0) : Type 0 where
   pub taken_up_at : ℕ
   -- the next ticket when answers were last cleared
   pub cleared_at : ℕ
-  -- the source in whose turn requests are lent
+  -- the source in whose turn requests are lent, or were lent last; none in the round of idles
   pub turn : Option RegistrationToken
 
 -- what callbacks do to requests: one is written under the next ticket, or the answer under a ticket is handed out
@@ -121,9 +124,32 @@ CannotAsk q e = ((q.next ≡ 2 ^ 64 - 1) × (e ≡ TooManyTickets)) ⊎ ((q.next
 
 -- What the loop does to requests.
 
--- the requests as they are lent in the turn of this source; calloop's callbacks aren't told whose turn it is
+-- The answer to an insertion is kept for the source in whose turn it was asked for, until that source's next turn begins, or
+-- it leaves the loop or is disabled. calloop's insert_source returns the token at once.
+
+abbrev pub is_source : RegistrationToken → Option RegistrationToken → Bool
+is_source token None = false
+is_source token (Some t) = nat_eq t.slot token.slot && nat_eq t.version token.version
+
+-- an answer isn't kept for this source any more
+abbrev pub not_kept_for : {D : Type 0} → RegistrationToken → Answered D → Answered D
+not_kept_for token a = record a { kept_for = if is_source token a.kept_for then None else a.kept_for }
+
+abbrev pub none_kept_for : {D I : Type 0} → RegistrationToken → Asks D I → Asks D I
+none_kept_for token q = record q { answers = map (not_kept_for token) q.answers }
+
+-- the requests as they are lent in the turn of this source, for which no answer is kept from now on; calloop's callbacks
+-- aren't told whose turn it is
 abbrev pub of_turn : {D I : Type 0} → RegistrationToken → Asks D I → Asks D I
-of_turn token q = record q { turn = Some token }
+of_turn token q = record (none_kept_for token q) { turn = Some token }
+
+-- for whom an answer is kept, if its request was written in this turn
+abbrev pub keeper_of : {D : Type 0} → (turn : Option RegistrationToken) → Answer D → Option RegistrationToken
+keeper_of turn (Inserted token) = turn
+keeper_of turn (NotInserted refused) = turn
+keeper_of turn Done = None
+keeper_of turn (Removed source) = None
+keeper_of turn (Refused error) = None
 
 -- the first request is carried out from now on
 abbrev pub begun_from : {D I : Type 0} → List (Asked D I) → Asks D I → Asks D I
@@ -137,20 +163,20 @@ abbrev pub request_of : {D I : Type 0} → List (Asked D I) → Option (Request 
 request_of [] = None
 request_of (a ∷ as') = Some a.request
 
-abbrev pub answers_to : {D : Type 0} → Option ℕ → Answer D → List (Answered D)
-answers_to None answer = []
-answers_to (Some ticket) answer = record { ticket = ticket; answer = answer } ∷ []
+abbrev pub answers_to : {D : Type 0} → Option ℕ → (turn : Option RegistrationToken) → Answer D → List (Answered D)
+answers_to None turn answer = []
+answers_to (Some ticket) turn answer = record { ticket = ticket; answer = answer; kept_for = keeper_of turn answer } ∷ []
 
 -- the answer of the request that is carried out
 abbrev pub with_answer : {D I : Type 0} → Answer D → Asks D I → Asks D I
-with_answer answer q = record q { answers = q.answers ++ answers_to q.serving answer; serving = None }
+with_answer answer q = record q { answers = q.answers ++ answers_to q.serving q.turn answer; serving = None }
 
 -- the answer is deferred to the end of the turn; and what is owed is then answered
 abbrev pub with_answer_owed : {D I : Type 0} → Asks D I → Asks D I
 with_answer_owed q = record q { owed = q.serving; serving = None }
 
 abbrev pub with_owed_answer : {D I : Type 0} → Answer D → Asks D I → Asks D I
-with_owed_answer answer q = record q { answers = q.answers ++ answers_to q.owed answer; owed = None }
+with_owed_answer answer q = record q { answers = q.answers ++ answers_to q.owed q.turn answer; owed = None }
 
 abbrev pub ticket_of : {I : Type 0} → Option (Idling I) → ℕ
 ticket_of None = 0
@@ -160,11 +186,12 @@ ticket_of (Some i) = i.ticket
 abbrev pub last_ticket : {I : Type 0} → List (Idling I) → ℕ
 last_ticket idles = ticket_of (slice_get idles (length idles - 1))
 
--- An answer stays if its request was written since idles were last taken up, and either since answers were last cleared,
--- or before the last idle that still waits, which may ask for it. In calloop a call of the handle answers at once.
+-- An answer stays if it is kept for a source. Another one stays if its request was written since idles were last taken up, and
+-- either since answers were last cleared, or before the last idle that still waits, which may ask for it. In calloop a call of
+-- the handle answers at once.
 abbrev pub stays_on : {D : Type 0} → (taken_up_at cleared_at last : ℕ) → Answered D → Bool
 stays_on taken_up_at cleared_at last a =
-    nat_le taken_up_at a.ticket && (nat_le cleared_at a.ticket || nat_lt a.ticket last)
+    is_some a.kept_for || (nat_le taken_up_at a.ticket && (nat_le cleared_at a.ticket || nat_lt a.ticket last))
 
 -- the other answers are gone, if they weren't handed out
 abbrev pub without_old : {D I : Type 0} → Asks D I → Asks D I
@@ -193,9 +220,9 @@ abbrev pub without_idle : {D I : Type 0} → (ticket : ℕ) → Asks D I → Ask
 without_idle ticket q =
     record q { idles = filter (is_other_idle ticket) q.idles; running = filter (is_other_idle ticket) q.running }
 
--- a round begins: the list is taken whole
+-- a round begins: the list is taken whole, and no source is in its turn
 abbrev pub taken_up : {D I : Type 0} → Asks D I → Asks D I
-taken_up q = record q { idles = []; running = q.running ++ q.idles; taken_up_at = q.next }
+taken_up q = record q { idles = []; running = q.running ++ q.idles; taken_up_at = q.next; turn = None }
 
 abbrev pub all_but_first : {A : Type 0} → List A → List A
 all_but_first [] = []

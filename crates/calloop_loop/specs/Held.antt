@@ -30,6 +30,8 @@ use Rattle.calloop_loop.specs.Askings.{
   Asks,
   AskStep,
   asks_after,
+  none_kept_for,
+  of_turn,
   after_begin,
   without_old,
   idle_begun,
@@ -78,11 +80,14 @@ with_warning false (Err e) es = es
 pub data HeldStep (D I : Type 0) : Type 0 where
   -- a registration is entered, if that is needed
   Listed : (needed : Bool) (token : RegistrationToken) → HeldStep D I
+  -- a registration is taken out; no answer is kept for its source any more
   Unlisted : (token : RegistrationToken) → HeldStep D I
   -- the source in its turn asked for this
   Pend : (action : PostAction) → HeldStep D I
   -- a callback wrote requests, or answers were handed out
   Asking : (steps : List (AskStep D I)) → HeldStep D I
+  -- so did the callback of this source in its turn
+  AskingIn : (token : RegistrationToken) (steps : List (AskStep D I)) → HeldStep D I
   -- the first request is carried out from now on; it is answered, or its answer is owed; and what is owed is answered
   Begun : HeldStep D I
   Told : (answer : Answer D) → HeldStep D I
@@ -104,9 +109,11 @@ pub data HeldStep (D I : Type 0) : Type 0 where
 
 abbrev pub held_after : {D I : Type 0} → Held D I → HeldStep D I → Held D I
 held_after h (Listed needed token) = record h { lifecycle = if needed then with_listing token h.lifecycle else h.lifecycle }
-held_after h (Unlisted token) = record h { lifecycle = filter (is_another token) h.lifecycle }
+held_after h (Unlisted token) =
+    record h { lifecycle = filter (is_another token) h.lifecycle; asks = none_kept_for token h.asks }
 held_after h (Pend action) = record h { pending = action }
 held_after h (Asking steps) = record h { asks = asks_after h.asks steps }
+held_after h (AskingIn token steps) = record h { asks = asks_after (of_turn token h.asks) steps }
 held_after h Begun = record h { asks = after_begin h.asks }
 held_after h (Told answer) = record h { asks = with_answer answer h.asks }
 held_after h Owe = record h { asks = with_answer_owed h.asks }

@@ -30,8 +30,8 @@ use Rattle.calloop_poll.specs.sys.Polls.{
   marks_taken,
   after_cut,
 }
-use Rattle.calloop_loop.specs.Held.{Held, HeldStep, Asking, held_after}
-use Rattle.calloop_loop.specs.Askings.{all_handed, no_asks}
+use Rattle.calloop_loop.specs.Held.{Held, HeldStep, Asking, AskingIn, held_after}
+use Rattle.calloop_loop.specs.Askings.{all_handed, no_asks, of_turn}
 use Rattle.calloop_loop.specs.Ledgers.{Ledger, steps_noted, gathering_noted, appended_noted, cut_noted, new_ledger}
 use Rattle.calloop_loop.specs.declared.EventLoop.{EventLoop}
 
@@ -137,6 +137,7 @@ all_viewed v (c ∷ cs) = all_viewed (after_change v c) cs
 -- the tickets whose answers a step hands out
 abbrev pub handed_in : {D I : Type 0} → Held D I → HeldStep D I → List ℕ
 handed_in h (Asking steps) = all_handed h.asks steps
+handed_in h (AskingIn token steps) = all_handed (of_turn token h.asks) steps
 handed_in h step = []
 
 abbrev pub slot_with : {D : Type 0} → Content D → Registration D → Registration D

@@ -33,6 +33,7 @@ use Rattle.calloop_slots.specs.declared.error.InsertError.{InsertError}
 use Rattle.calloop_slots.specs.declared.token.Token.{Token}
 use Rattle.calloop_slots.specs.declared.token.TokenFactory.{TokenFactory}
 use Rattle.calloop_slots.specs.declared.token.RegistrationToken.{RegistrationToken}
+use Rattle.calloop_slots.specs.declared.wheel.Instant.{Instant}
 use Rattle.calloop_slots.specs.declared.list.Content.{Content}
 use Rattle.calloop_slots.specs.declared.list.Slot.{Slot}
 use Rattle.calloop_slots.specs.declared.list.Content.TheVariants.{Vacant, Source, InTurn}
@@ -51,6 +52,7 @@ use Rattle.calloop_sources.specs.declared.sources.source.PostAction.TheVariants.
 }
 use Rattle.calloop_sources.specs.sources.Deeds.{Deed, Registered, Reregistered, Unregistered, Turned, Slept, Noticed, Lent, lend}
 use Rattle.calloop_sources.specs.sources.Meanings.{Meaning}
+use Rattle.calloop_sources.specs.sources.SetDeadlines.{SetsDeadline}
 use Rattle.calloop_poll.specs.sys.Pollers.{Outside, nanos_of}
 use Rattle.calloop_poll.specs.sys.Events.{events_of}
 use Rattle.calloop_poll.specs.sys.Polls.{PollView, PollStep, AllAllowed, own_event, after_cut}
@@ -109,6 +111,7 @@ use Rattle.calloop_loop.specs.declared.asks.Request.TheVariants.{
   Enable as AskEnable,
   Update as AskUpdate,
   Disable as AskDisable,
+  SetDeadline as AskSetDeadline,
   Remove as AskRemove,
   Idle as AskIdle,
   Cancel as AskCancel,
@@ -123,6 +126,7 @@ use Rattle.calloop_loop.specs.Held.{
   Unlisted,
   Pend,
   Asking,
+  AskingIn,
   Begun,
   Told,
   Owe,
@@ -244,6 +248,22 @@ abbrev pub DisabledBy : {D I P X : Type 0} → Meaning D P (Lent X (Asks D I)) �
     → Result (Unit {0}) Error → View D I P → List (Change D I P) → Type 0
 DisabledBy M token answer v cs =
     AskedIn (λ d a steps e. M.does d v.poll (Unregistered a) steps e) (unlisting_of token) token
+    (only (is_callers M) (content_at v.slots token)) answer cs
+
+-- the source is given this deadline, and then registered anew, so that it is armed for it; one that is no timer stays as it was.
+-- A caller of calloop does both, by `Timer::set_deadline` and `update`
+abbrev pub RearmedBy : {D I P X : Type 0} → Meaning D P (Lent X (Asks D I)) → (deadline : Instant) → RegistrationToken
+    → (listed : Bool) → PollView P → D → Outcome → List (PollStep P) → D → Type 0
+RearmedBy {D} M deadline token listed v d answer steps e =
+    ((answer ≡ Err InvalidToken) × (steps ≡ []) × SetsDeadline M deadline d false e)
+    ⊎ ((timer : D) × SetsDeadline M deadline d true timer
+    × RegisteredBy M Reregistered token listed v timer answer steps e)
+
+-- the timer that a token names is armed for this deadline
+abbrev pub DeadlineSetBy : {D I P X : Type 0} → Meaning D P (Lent X (Asks D I)) → RegistrationToken → (deadline : Instant)
+    → Outcome → View D I P → List (Change D I P) → Type 0
+DeadlineSetBy M token deadline answer v cs =
+    AskedIn (RearmedBy M deadline token (is_listed token v.held.lifecycle) v.poll) (listing_of M token) token
     (only (is_callers M) (content_at v.slots token)) answer cs
 
 -- the source leaves its slot vacant, is unregistered, and is handed back; a failure of the unregistration is a warning, if
@@ -396,8 +416,10 @@ CutTo {D} {I} {P} {X} M e (Source d) v x cs b =
     × M.does d (after_cut v.poll)
     (Turned e.readiness e.token
     (lend x (of_turn (registration_of e.token) v.held.asks) answer x'
-    (of_turn (registration_of e.token) (asks_after v.held.asks asked)))) steps d'
-    × (cs ≡ Cut (Some e.token.slot) ∷ Put e.token.slot InTurn ∷ Polls steps ∷ Ended ∷ Holds (Asking asked) ∷ [])
+    (asks_after (of_turn (registration_of e.token) v.held.asks) asked))) steps d'
+    × (cs
+    ≡ Cut (Some e.token.slot) ∷ Put e.token.slot InTurn ∷ Polls steps ∷ Ended
+    ∷ Holds (AskingIn (registration_of e.token) asked) ∷ [])
     × (b ≡ Serving (registration_of e.token) d' answer x')
 
 abbrev pub CutFrom : {D I P X : Type 0} → Meaning D P (Lent X (Asks D I)) → List Pending → View D I P → X
@@ -428,8 +450,9 @@ OwnOr InTurn own other = own
 OwnOr Vacant own other = other
 OwnOr (Source d) own other = other
 
--- what a request does, and its answer: a source in its turn can't be registered; registering it anew, or taking its registration
--- back, waits for the end of its turn; calloop does the same, but its enable panics in such a turn
+-- what a request does, and its answer: a source in its turn can't be registered, nor its deadline be set, which its callback
+-- does by what it returns; registering it anew, or taking its registration back, waits for the end of its turn; calloop does the
+-- same, but its enable panics in such a turn
 abbrev pub ServedAs : {D I P X : Type 0} → Meaning D P (Lent X (Asks D I)) → Request D I → Outcome → View D I P
     → List (Change D I P) → Type 0
 ServedAs M (AskEnable token) answer v cs =
@@ -438,6 +461,8 @@ ServedAs M (AskUpdate token) answer v cs =
     OwnOr (content_at v.slots token) ((answer ≡ Ok tt) × (cs ≡ Holds (Pend Reregister) ∷ [])) (UpdatedBy M token answer v cs)
 ServedAs M (AskDisable token) answer v cs =
     OwnOr (content_at v.slots token) ((answer ≡ Ok tt) × (cs ≡ Holds (Pend DisableIt) ∷ [])) (DisabledBy M token answer v cs)
+ServedAs M (AskSetDeadline token deadline) answer v cs =
+    OwnOr (content_at v.slots token) ((answer ≡ Err OwnTurn) × (cs ≡ [])) (DeadlineSetBy M token deadline answer v cs)
 ServedAs M request answer v cs = ⊥
 
 -- a request with its answer. A source that asks for its own removal leaves its slot at once, and is answered when its

@@ -1,19 +1,19 @@
 //! What callbacks ask of the loop, and the answers. A callback of calloop holds a handle of its loop instead, whose calls act at
 //! once, except those on its own source.
-ghost use Rattle.std.specs.Prelude.{◌≡◌, true, ◌⊎◌, ◌+◌, ◌-◌, ◌^◌, ◌<◌, ◌≤◌, ◌++◌, [], None, Some, filter, IfOk, IfErr, IfSome, IfNone, OnOk, vec_len, vec_capacity};
+ghost use Rattle.std.specs.Prelude.{◌≡◌, true, ◌⊎◌, ◌+◌, ◌-◌, ◌^◌, ◌<◌, ◌≤◌, ◌++◌, [], None, Some, filter, IfOk, IfErr, IfSome, IfNone, OnOk, map, vec_len, vec_capacity};
 ghost use Rattle.std.specs.VecDeque.{deque_len, deque_capacity};
 ghost use Rattle.calloop_slots.specs.declared.error.Error.TheVariants.{OutOfMemory, TooManyTickets};
-ghost use Rattle.calloop_loop.specs.declared.asks.Request.TheVariants.{Insert, Enable, Update, Disable, Remove, Idle as IdleOf, Cancel};
+ghost use Rattle.calloop_loop.specs.declared.asks.Request.TheVariants.{Insert, Enable, Update, Disable, SetDeadline, Remove, Idle as IdleOf, Cancel};
 ghost use Rattle.calloop_loop.specs.declared.asks.Answer.TheVariants.{Removed};
-ghost use Rattle.calloop_loop.specs.Askings.{IsAsked, CannotAsk, OnlyAsks, StandsAt, Take, ask_after, after_begin, without_old, answer_under, idle_begun, is_other_idle, last_ticket, no_asks, of_turn, stays_on, with_answer_owed, with_owed_answer, request_of, running_of, taken_up, with_answer, with_idle, with_new_idle, without, without_idle};
+ghost use Rattle.calloop_loop.specs.Askings.{IsAsked, CannotAsk, OnlyAsks, StandsAt, Take, ask_after, after_begin, without_old, answer_under, idle_begun, is_other_idle, is_source, keeper_of, last_ticket, no_asks, none_kept_for, not_kept_for, of_turn, stays_on, with_answer_owed, with_owed_answer, request_of, running_of, taken_up, with_answer, with_idle, with_new_idle, without, without_idle};
 
 use calloop_slots::error::{Error, InsertError, Result};
 use calloop_slots::token::RegistrationToken;
+use calloop_slots::wheel::Instant;
 use calloop_sources::sources::{Asking, Choice, Dispatcher};
 use std::alloc::Global;
 use std::collections::VecDeque;
 use std::marker::Model;
-use std::mem;
 
 /// The name of a request and of its answer.
 #[derive(Clone, Copy, Debug, PartialEq, Eq)]
@@ -65,6 +65,7 @@ pub(super) enum Request<D, I> {
     Enable(RegistrationToken),
     Update(RegistrationToken),
     Disable(RegistrationToken),
+    SetDeadline(RegistrationToken, Instant),
     Remove(RegistrationToken),
     Idle(I),
     Cancel(u64),
@@ -82,6 +83,8 @@ pub(super) struct Asked<D, I> {
 pub(super) struct Answered<D> {
     ticket: u64,
     answer: Answer<D>,
+    // The source that is to find the answer in its next turn.
+    kept_for: Option<RegistrationToken>,
 }
 
 // An idle under the ticket of its request.
@@ -109,7 +112,7 @@ pub struct Requests<D, I = ()> {
     // The next ticket when idles were last taken up, and when answers were last cleared.
     taken_up_at: u64,
     cleared_at: u64,
-    // The source in whose turn the requests are lent.
+    // The source in whose turn the requests are lent, or were lent last. None in the round of idles.
     turn: Option<RegistrationToken>,
 }
 
@@ -280,6 +283,25 @@ impl<D, I> Requests<D, I> {
             .map_err(|refused| refused.error)
     }
 
+    /// Asks for the timer that the token names to be armed for this deadline of the loop's clock, in place of the one that it has,
+    /// also if it is disabled. The answer is `Done`, or `Refused`: with `InvalidToken` if the token names no source, or
+    /// one that is no timer, which stays as it was; with `OwnTurn` if that source is the one in its turn, whose callback sets the
+    /// deadline by what it returns; and with `OutOfMemory` or `TooManyTimers` if the timer can't be armed. Then it is unarmed, with
+    /// this deadline. A timer within a `Both`, a `Movable` or a `TransientSource` is none here. A caller of calloop sets the
+    /// deadline by `as_source_mut`, and then calls `update`.
+    pub fn set_deadline(&mut self, token: &RegistrationToken, deadline: Instant) -> Result<Ticket>
+    where
+        D: Drop,
+        I: Drop,
+        ensures ok { IfOk result
+            (λ t. IsAsked (SetDeadline token.now deadline) t.number self.old self.new) }
+        ensures err { IfErr result (λ e. CannotAsk self.old e × (self.new ≡ self.old)) }
+        ensures asks { OnlyAsks self.old self.new }
+    {
+        self.write(Request::SetDeadline(*token, deadline))
+            .map_err(|refused| refused.error)
+    }
+
     /// Asks for the source that the token names to leave the loop. The answer is `Removed`. If that source is in its turn, its
     /// slot is vacant at once, and it is unregistered and answered when the turn is over.
     pub fn remove(&mut self, token: RegistrationToken) -> Result<Ticket>
@@ -349,6 +371,10 @@ impl<D, I> Requests<D, I> {
     /// made its room after the idles that were asked for beside it were taken up. If dispatches fail before their idles, it stays
     /// until the end of the next dispatch that made its room, and longer only while an idle that was asked for after it waits. In
     /// calloop a call of the handle answers at once.
+    ///
+    /// The answer to an insertion that was asked for in a source's turn is also there in the next turn of that source, however
+    /// late it comes; the first dispatch after that turn drops it. If the source leaves the loop or is disabled before, the answer
+    /// is gone like any other.
     pub fn answer(&mut self, ticket: Ticket) -> Option<Answer<D>>
         ensures value { result ≡ answer_under ticket.number self.old.answers }
         ensures rest { self.new ≡ ask_after self.old (Take ticket.number) }
@@ -395,19 +421,19 @@ impl<D, I> Requests<D, I> {
 }
 
 impl<D, I> Requests<D, I> {
-    // Lends the requests in the turn of this source from now on. Returns whose turn it was before.
-    pub(super) fn enter_turn(&mut self, token: RegistrationToken) -> Option<RegistrationToken>
-        ensures older { result ≡ self.old.turn }
-        ensures asks { self.new ≡ of_turn token self.old }
+    // Lends the requests in the turn of this source from now on. Answers that were kept for it are gone with the next dispatch.
+    pub(super) fn enter_turn(&mut self, token: RegistrationToken)
+        ensures { self.new ≡ of_turn token self.old }
     {
-        mem::replace(&mut self.turn, Some(token))
+        self.keep_none_for(token);
+        self.turn = Some(token);
     }
 
-    // Ends the turn.
-    pub(super) fn leave_turn(&mut self, older: Option<RegistrationToken>)
-        ensures { self.new ≡ record self.old { turn = older } }
+    // Keeps no answer for this source any more.
+    pub(super) fn keep_none_for(&mut self, token: RegistrationToken)
+        ensures { self.new ≡ none_kept_for token self.old }
     {
-        self.turn = older;
+        keep_none(&mut self.answers, token);
     }
 
     // True if nothing is asked for.
@@ -427,7 +453,7 @@ impl<D, I> Requests<D, I> {
         Some(asked.request)
     }
 
-    // Answers the request that is carried out.
+    // Answers the request that is carried out. The answer to an insertion is kept for the source that asked in its turn.
     pub(super) fn put_answer(&mut self, answer: Answer<D>)
     where
         D: Drop,
@@ -435,7 +461,12 @@ impl<D, I> Requests<D, I> {
     {
         if let Some(ticket) = self.serving {
             self.serving = None;
-            self.answers.push_reserved(Answered { ticket, answer });
+            let kept_for = keeper_of(self.turn, &answer);
+            self.answers.push_reserved(Answered {
+                ticket,
+                answer,
+                kept_for,
+            });
         }
     }
 
@@ -458,12 +489,14 @@ impl<D, I> Requests<D, I> {
             self.answers.push_reserved(Answered {
                 ticket,
                 answer: Answer::Removed(Some(left)),
+                kept_for: None,
             });
         }
     }
 
     // Begins a dispatch. Drops the answers to what was asked for before idles were last taken up: what was asked beside it has
     // run. Also drops those to what was asked for before the last dispatch, unless an idle that was asked for later waits still.
+    // Those that are kept for a source stay.
     pub(super) fn clear_answers(&mut self)
     where
         D: Drop,
@@ -487,6 +520,7 @@ impl<D, I> Requests<D, I> {
             self.answers.push_reserved(Answered {
                 ticket,
                 answer: Answer::Done,
+                kept_for: None,
             });
         }
     }
@@ -535,12 +569,13 @@ impl<D, I> Requests<D, I> {
         take_out(&mut self.running, ticket);
     }
 
-    // Has all idles run from now on; later ones wait.
+    // Has all idles run from now on; later ones wait. No source is in its turn.
     pub(super) fn take_up_idles(&mut self)
         ensures { self.new ≡ taken_up self.old }
     {
         move_all(&mut self.idles, &mut self.running);
         self.taken_up_at = self.next;
+        self.turn = None;
     }
 
     // Takes out the first of the idles that run.
@@ -626,7 +661,47 @@ fn last_ticket<I>(idles: &VecDeque<Idling<I>>) -> u64
     }
 }
 
-// Drops the answers under tickets before `taken_up_at`, and those under tickets neither since `cleared_at` nor before `last`.
+// The source for which an answer is kept, if its request was written in this turn.
+fn keeper_of<D>(turn: Option<RegistrationToken>, answer: &Answer<D>) -> Option<RegistrationToken>
+    ensures { result ≡ keeper_of turn answer.now }
+{
+    match answer {
+        Answer::Inserted(_) | Answer::NotInserted(_) => turn,
+        _ => None,
+    }
+}
+
+// Keeps no answer for this source any more.
+fn keep_none<D>(answers: &mut Vec<Answered<D>>, token: RegistrationToken)
+    ensures items { answers.new.items ≡ map (not_kept_for token) answers.old.items }
+    ensures room { (vec_len answers.new ≡ vec_len answers.old)
+        × (vec_capacity answers.new ≡ vec_capacity answers.old) }
+{
+    for place in 0..answers.len() {
+        let answered = &mut answers[place];
+        keep_not(answered, token);
+    }
+}
+
+fn keep_not<D>(answered: &mut Answered<D>, token: RegistrationToken)
+    ensures { answered.new ≡ not_kept_for token answered.old }
+{
+    if is_source(token, answered.kept_for) {
+        answered.kept_for = None;
+    }
+}
+
+fn is_source(token: RegistrationToken, kept_for: Option<RegistrationToken>) -> bool
+    ensures { result ≡ is_source token kept_for }
+{
+    match kept_for {
+        Some(other) => other == token,
+        None => false,
+    }
+}
+
+// Drops the answers that are kept for no source if their tickets are before `taken_up_at`, or neither since `cleared_at` nor
+// before `last`.
 fn drop_old<D: Drop>(answers: &mut Vec<Answered<D>>, taken_up_at: u64, cleared_at: u64, last: u64)
     ensures items { answers.new.items
         ≡ filter (stays_on taken_up_at cleared_at last) answers.old.items }
@@ -634,7 +709,9 @@ fn drop_old<D: Drop>(answers: &mut Vec<Answered<D>>, taken_up_at: u64, cleared_a
         × (vec_capacity answers.new ≡ vec_capacity answers.old) }
 {
     answers.retain(|answered| {
-        answered.ticket >= taken_up_at && (answered.ticket >= cleared_at || answered.ticket < last)
+        answered.kept_for.is_some()
+            || (answered.ticket >= taken_up_at
+                && (answered.ticket >= cleared_at || answered.ticket < last))
     });
 }
 

@@ -76,7 +76,8 @@ impl<D: EventDispatcher<P, C, R>, P: Poller, C: Clock, R: Wait + Drop> EventLoop
     /// What callbacks ask for in a turn is carried out in order when the turn ends, before its answer is acted on. When the
     /// batch is empty, the idles that wait then run once each, in order, each followed by what it asks for; later ones wait
     /// for the next dispatch, and after an error none runs. Earlier warnings are cleared at the beginning, and so are
-    /// answers to requests from before idles were last taken up, or from before the last dispatch if no later idle waits.
+    /// answers to requests from before idles were last taken up, or from before the last dispatch if no later idle waits; not
+    /// those to insertions that wait for the next turn of the source that asked.
     #[inline(always)]
     pub fn dispatch<Q: Wait>(
         &mut self,
@@ -146,7 +147,7 @@ impl<D: EventDispatcher<P, C, R>, P: Poller, C: Clock, R: Wait + Drop> EventLoop
             self.poll.end_event();
             return Ok(true);
         };
-        let outer = self.requests.enter_turn(token);
+        self.requests.enter_turn(token);
         let answer = source.process_events(
             event.readiness,
             event.token,
@@ -155,7 +156,6 @@ impl<D: EventDispatcher<P, C, R>, P: Poller, C: Clock, R: Wait + Drop> EventLoop
             &mut self.requests,
             failure,
         );
-        self.requests.leave_turn(outer);
         self.poll.end_event();
         self.go_on(token, answer, failure)
     }

@@ -9,6 +9,7 @@ use calloop_poll::sys::{Clock, Poller, Readiness};
 use calloop_slots::error::{Error, Failed, InsertError, Result};
 use calloop_slots::list::SourceList;
 use calloop_slots::token::{RegistrationToken, Token, TokenFactory};
+use calloop_slots::wheel::Instant;
 use calloop_sources::callbacks::QuietDispatch;
 use calloop_sources::idles::IdleCallback;
 use calloop_sources::sources::{
@@ -224,6 +225,10 @@ where
 
     fn before_handle_events(&mut self, events: EventIterator<'_>) {
         self.held.before_handle_events(events);
+    }
+
+    fn try_set_deadline(&mut self, deadline: Instant) -> bool {
+        self.held.try_set_deadline(deadline)
     }
 
     ghost keeps = { keeping_seen (λ s. s.held) A.means A.keeps };

@@ -10,7 +10,7 @@ ghost use Rattle.calloop_loop.specs.Machine.{view_of};
 ghost use Rattle.calloop_loop.specs.Held.{is_listed};
 ghost use Rattle.calloop_loop.specs.Registering.{deed_of};
 ghost use Rattle.calloop_loop.specs.Rooms.{HasRoom};
-ghost use Rattle.calloop_loop.specs.Rules.{CannotInsert, ByOne, RegisteredBy, listing_of, unlisting_of};
+ghost use Rattle.calloop_loop.specs.Rules.{CannotInsert, ByOne, RearmedBy, RegisteredBy, listing_of, unlisting_of};
 
 use super::{EventDispatcher, EventLoop};
 use calloop_poll::sys::poll::Poll;
@@ -19,6 +19,7 @@ use calloop_slots::error::{Error, Failed};
 use calloop_slots::list::ClaimRefusal;
 use calloop_slots::steps::Steps;
 use calloop_slots::token::{RegistrationToken, TokenFactory};
+use calloop_slots::wheel::Instant;
 use std::sync::Wait;
 
 // Says if a source is registered for the first time, or anew.
@@ -98,7 +99,29 @@ impl<D: EventDispatcher<P, C, R>, P: Poller, C: Clock, R: Wait + Drop> EventLoop
         }
     }
 
-    // Takes the registration of a source back, and its entry out, even if that fails.
+    // Sets the deadline of a source that is out of its slot, and registers it anew. Fails with `InvalidToken` if it is no timer.
+    pub(super) fn rearm_source(
+        &mut self,
+        token: RegistrationToken,
+        deadline: Instant,
+        source: &mut D,
+        failure: &mut Error,
+    ) -> Result<(), Failed>
+        ensures { ByOne P.outside
+            (RearmedBy D.means deadline token
+            (is_listed token (view_of self.old).held.lifecycle) (view_of self.old).poll)
+            (listing_of D.means token)
+            source.old (with_error result failure.new) source.new
+            (view_of self.old) (view_of self.new) }
+    {
+        if !source.try_set_deadline(deadline) {
+            *failure = Error::InvalidToken;
+            return Err(Failed);
+        }
+        self.register(Registering::Anew, token, source, failure)
+    }
+
+    // Takes the registration of a source back, and its entry out, even if that fails. No answer is kept for it any more.
     pub(super) fn unregister(
         &mut self,
         token: RegistrationToken,
@@ -114,6 +137,7 @@ impl<D: EventDispatcher<P, C, R>, P: Poller, C: Clock, R: Wait + Drop> EventLoop
     {
         let answer = source.unregister(&mut self.poll, failure);
         self.lifecycle.leave(token);
+        self.requests.keep_none_for(token);
         answer
     }
 }

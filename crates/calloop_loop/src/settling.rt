@@ -71,6 +71,7 @@ impl<D: EventDispatcher<P, C, R>, P: Poller, C: Clock, R: Wait + Drop> EventLoop
             Some(told) => {
                 self.sources.vacate(token);
                 self.lifecycle.leave(token);
+                self.requests.keep_none_for(token);
                 self.warnings.note(told);
             }
             None => {

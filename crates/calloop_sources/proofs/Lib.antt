@@ -1,3 +1,4 @@
 pub mod Calling
 pub mod Marked
 pub mod Asked
+pub mod DeadlineSetting

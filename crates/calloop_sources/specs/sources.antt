@@ -5,5 +5,6 @@ pub mod Deeds
 pub mod Holdings
 pub mod Meanings
 pub mod Quiet
+pub mod SetDeadlines
 pub mod Beside
 pub mod Lawful

@@ -7,6 +7,7 @@ use calloop_poll::sys::synthetic::Synthetic;
 use calloop_poll::sys::{Poller, Readiness};
 use calloop_slots::error::Result as LoopResult;
 use calloop_slots::token::{Token, TokenFactory};
+use calloop_slots::wheel::Instant;
 use std::sync::Wait;
 
 impl<P: Poller, C, R: Wait + Drop, T: EventSource<P, C, R>> EventSource<P, C, R> for Box<T> {
@@ -69,6 +70,10 @@ impl<P: Poller, C, R: Wait + Drop, T: EventSource<P, C, R>> EventSource<P, C, R>
 
     fn before_handle_events(&mut self, events: EventIterator<'_>) {
         (**self).before_handle_events(events);
+    }
+
+    fn try_set_deadline(&mut self, deadline: Instant) -> bool {
+        (**self).try_set_deadline(deadline)
     }
 
     ghost keeps = { keeping_seen (λ s. s.value) T.means T.keeps };
@@ -142,6 +147,10 @@ impl<'a, P: Poller, C, R: Wait + Drop, T: EventSource<P, C, R>> EventSource<P, C
 
     fn before_handle_events(&mut self, events: EventIterator<'_>) {
         self.source.before_handle_events(events);
+    }
+
+    fn try_set_deadline(&mut self, deadline: Instant) -> bool {
+        self.source.try_set_deadline(deadline)
     }
 
     ghost keeps = { keeping_seen (λ s. s.source.now) T.means T.keeps };

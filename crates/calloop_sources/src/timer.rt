@@ -238,6 +238,8 @@ impl Timer {
 impl<P: Poller, C, R: Wait + Drop> EventSource<P, C, R> for Timer {
     ghost use Rattle.calloop_sources.specs.Timers.{timer_meaning};
     ghost use Rattle.calloop_sources.specs.TimerKeeping.{timer_keeps};
+    ghost use Rattle.std.specs.Prelude.{◌≡◌, Some, true};
+    ghost use Rattle.calloop_sources.specs.sources.SetDeadlines.{SetsDeadline};
 
     type Event = Instant;
 
@@ -313,6 +315,16 @@ impl<P: Poller, C, R: Wait + Drop> EventSource<P, C, R> for Timer {
     }
 
     fn before_handle_events(&mut self, _events: EventIterator<'_>) {}
+
+    /// As `set_deadline`. It returns true.
+    fn try_set_deadline(&mut self, deadline: Instant) -> bool
+        ensures sets { SetsDeadline (timer_meaning {P = P}) deadline self.old result self.new }
+        ensures set { result ≡ true }
+        ensures timer { self.new ≡ record self.old { deadline = Some deadline } }
+    {
+        self.set_deadline(deadline);
+        true
+    }
 
     ghost keeps = { timer_keeps };
 }

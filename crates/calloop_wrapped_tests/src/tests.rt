@@ -8,8 +8,9 @@ use calloop_test_sources::noting::{Asked, Notebook};
 use calloop_test_sources::numbered::Ending;
 use desk::Act;
 use held::{
-    CLOSED, boxed_ping, boxed_timer, closed_channel, forwarded_ping, laws_of_wrapped_pings,
-    nested_ping, numbered_ping, ping_and_timer, plain_ping, quiet_pings, three_pings, wrapped_ping,
+    CLOSED, boxed_ping, boxed_timer, closed_channel, deadlines_that_are_set, forwarded_ping,
+    laws_of_wrapped_pings, nested_ping, numbered_ping, ping_and_timer, plain_ping, quiet_pings,
+    three_pings, wrapped_ping,
 };
 use pair::Row;
 use std::alloc::Global;
@@ -570,6 +571,13 @@ fn a_source_whose_parts_both_leave_is_registered_anew(rt: HostRuntime) {
 fn wrapped_pings_keep_the_laws(rt: HostRuntime) {
     laws_of_wrapped_pings(&rt);
     assert_eq!(rt; quiet_pings(&rt, rt.alloc()), Some(true));
+}
+
+#[test]
+fn a_deadline_is_set_through_a_box_and_a_loan_and_a_ping_has_none(rt: HostRuntime) {
+    let set = Some(Instant::from_millis(7));
+    let deadlines = deadlines_that_are_set(&rt, rt.alloc());
+    assert_eq!(rt; deadlines, Some(([true, true, false], [set, set])));
 }
 
 #[test]

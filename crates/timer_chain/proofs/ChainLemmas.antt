@@ -10,7 +10,7 @@ use Rattle.calloop_sources.specs.declared.timer.TimeoutAction.{TimeoutAction}
 use Rattle.calloop_sources.specs.sources.Calls.{CallbackCall, Went}
 use Rattle.calloop_loop.specs.declared.asks.Asked.{Asked}
 use Rattle.calloop_loop.specs.declared.asks.Request.{Request}
-use Rattle.calloop_loop.specs.declared.asks.Request.TheVariants.{Insert, Enable, Update, Disable, Remove, Idle, Cancel}
+use Rattle.calloop_loop.specs.declared.asks.Request.TheVariants.{Insert, Enable, Update, Disable, SetDeadline, Remove, Idle, Cancel}
 use Rattle.calloop_loop.specs.Askings.{Asks, AskStep, Write, Take, Reaches, IsAsked, CannotAsk, ask_after, asks_after}
 use Rattle.calloop_laws.specs.Freshness.{IsOnly, AreOnly, AsksFresh}
 use Rattle.calloop_laws.specs.Laws.{IsFresh}
@@ -38,6 +38,7 @@ module _ (P : Type 0) where
   new_of (Enable token) h = tt
   new_of (Update token) h = tt
   new_of (Disable token) h = tt
+  new_of (SetDeadline token deadline) h = tt
   new_of (Remove token) h = tt
   new_of (Idle idle) h = tt
   new_of (Cancel ticket) h = tt

@@ -11,7 +11,7 @@ use crate::cell::SendingEnd;
 use calloop_poll::sys::hub::share;
 use calloop_wake::Receipt;
 use calloop_wake::executor::{ExecutorCore, PutRefusal};
-use std::alloc::AllocError;
+use std::alloc::{AllocError, Global};
 use std::marker::Model;
 use std::sync::{Arc, Wait};
 
@@ -22,6 +22,7 @@ use std::sync::{Arc, Wait};
 pub struct Scheduler<Fut: Drop, R: Wait + Drop> {
     end: SendingEnd<ExecutorCore, R>,
     homes: SharedHomes<Fut, R>,
+    alloc: Global,
 }
 
 impl<Fut: Drop, R: Wait + Drop> Model for Scheduler<Fut, R> {
@@ -54,11 +55,12 @@ impl<Fut: Drop, R: Wait + Drop> Scheduler<Fut, R> {
     pub(crate) fn of(
         end: SendingEnd<ExecutorCore, R>,
         homes: SharedHomes<Fut, R>,
+        alloc: Global,
     ) -> Scheduler<Fut, R>
         requires { (arc_value homes).tag ≡ end }
         ensures { result ≡ end }
     {
-        Scheduler { end, homes }
+        Scheduler { end, homes, alloc }
     }
 }
 
@@ -82,7 +84,7 @@ impl<Fut: Future<R>, R: Wait + Clone + Drop> Scheduler<Fut, R> {
         };
         match end.put(place.home()) {
             Ok((key, due)) => {
-                let waker = Waker::of_task(own, share(rt, shared), key);
+                let waker = Waker::of_task(own, share(rt, shared), key, self.alloc);
                 let held = Pollable { future, waker };
                 let (receipt, missed) = homes::keep(rt, homes, due, place, held);
                 if missed {
@@ -106,6 +108,10 @@ impl<Fut: Drop, R: Wait + Clone + Drop> Clone for Scheduler<Fut, R> {
     fn clone(&self) -> Result<Scheduler<Fut, R>, AllocError> {
         let end = self.end.clone()?;
         let homes = Arc::try_clone(&self.homes)?;
-        Ok(Scheduler { end, homes })
+        Ok(Scheduler {
+            end,
+            homes,
+            alloc: self.alloc,
+        })
     }
 }

@@ -13,7 +13,7 @@ use calloop_wake::executor::ExecutorCore;
 use calloop_wake::tasks::TaskKey;
 use std::alloc::{AllocError, Global};
 use std::sync::atomic::{AtomicBool, Ordering};
-use std::sync::{Arc, Wait};
+use std::sync::{Arc, OnceLock, Wait};
 
 /// The answer of a poll.
 #[derive(Debug, Drop, PartialEq, Eq)]
@@ -25,11 +25,15 @@ pub enum Poll<T> {
 }
 
 /// Wakes what is polled with it, from any thread, any number of times: a task of an executor, a stream, or the future of
-/// `block_on`. It may outlive that, and then does nothing.
+/// `block_on`. It may outlive that, and then does nothing. Cloning it fails if there is no memory.
 #[derive(Drop)]
 pub struct Waker<R: Wait + Drop> {
     wakes: Wakes<R>,
 }
+
+// The flag of a task, which its wakers share. If it is set, the task is to be polled, or the wake that set it is on its way to the
+// cell.
+type Awake = Arc<AtomicBool, Global>;
 
 // What is woken.
 #[derive(Drop)]
@@ -38,6 +42,8 @@ enum Wakes<R: Wait + Drop> {
         rt: R,
         shared: SharedCell<ExecutorCore>,
         key: TaskKey,
+        awake: OnceLock<Awake>,
+        alloc: Global,
     },
     Stream(Ping<R>),
     Blocked(Arc<Blocked, Global>),
@@ -70,10 +76,43 @@ impl Blocked {
     }
 }
 
+// The flag, which the first clone of a waker makes, in the poll that hands it out.
+fn flag_in<R: Wait>(rt: &R, awake: &OnceLock<Awake>, alloc: Global) -> Result<Awake, AllocError> {
+    if let Some(awake) = awake.get() {
+        return Ok(share(rt, awake));
+    }
+    let made = Arc::new(alloc, AtomicBool::new(false))?;
+    let _ = awake.set(rt, made);
+    match awake.get() {
+        Some(awake) => Ok(share(rt, awake)),
+        None => Err(AllocError),
+    }
+}
+
 impl<R: Wait + Drop> Waker<R> {
-    pub(crate) fn of_task(rt: R, shared: SharedCell<ExecutorCore>, key: TaskKey) -> Waker<R> {
+    pub(crate) fn of_task(
+        rt: R,
+        shared: SharedCell<ExecutorCore>,
+        key: TaskKey,
+        alloc: Global,
+    ) -> Waker<R> {
         Waker {
-            wakes: Wakes::Task { rt, shared, key },
+            wakes: Wakes::Task {
+                rt,
+                shared,
+                key,
+                awake: OnceLock::new(),
+                alloc,
+            },
+        }
+    }
+
+    // Clears the flag before a poll: a wake from now on queues the task again. The poll sees what was written before earlier wakes.
+    pub(crate) fn begin_poll(&self) {
+        if let Wakes::Task { awake, .. } = &self.wakes {
+            if let Some(awake) = awake.get() {
+                let _was = awake.swap(false, Ordering::SeqCst);
+            }
         }
     }
 
@@ -96,7 +135,20 @@ impl<R: Wait + Drop> Waker<R> {
     /// Waking a queued task has no effect. Waking a task during its poll queues it again, behind the others.
     pub fn wake(&self) {
         match &self.wakes {
-            Wakes::Task { rt, shared, key } => cell::wake(rt, shared, *key),
+            Wakes::Task {
+                rt,
+                shared,
+                key,
+                awake,
+                alloc: _,
+            } => {
+                if let Some(awake) = awake.get() {
+                    if awake.swap(true, Ordering::SeqCst) {
+                        return;
+                    }
+                }
+                cell::wake(rt, shared, *key);
+            }
             Wakes::Stream(ping) => {
                 let _receipt = ping.ping();
             }
@@ -108,11 +160,25 @@ impl<R: Wait + Drop> Waker<R> {
 impl<R: Wait + Clone + Drop> Clone for Wakes<R> {
     fn clone(&self) -> Result<Wakes<R>, AllocError> {
         match self {
-            Wakes::Task { rt, shared, key } => Ok(Wakes::Task {
-                rt: rt.clone()?,
-                shared: share(rt, shared),
-                key: *key,
-            }),
+            Wakes::Task {
+                rt,
+                shared,
+                key,
+                awake,
+                alloc,
+            } => {
+                let own = rt.clone()?;
+                let flag = flag_in(rt, awake, *alloc)?;
+                let again = OnceLock::new();
+                let _ = again.set(rt, flag);
+                Ok(Wakes::Task {
+                    rt: own,
+                    shared: share(rt, shared),
+                    key: *key,
+                    awake: again,
+                    alloc: *alloc,
+                })
+            }
             Wakes::Stream(ping) => Ok(Wakes::Stream(ping.clone()?)),
             Wakes::Blocked(blocked) => Ok(Wakes::Blocked(Arc::try_clone(blocked)?)),
         }
@@ -179,6 +245,7 @@ impl<Fut: Future<R>, R: Wait + Drop> Pollable<Fut, R> {
         ensures pending { IfErr result (λ back. Fut.polls self.future Pending back.future) }
     {
         let Pollable { mut future, waker } = self;
+        waker.begin_poll();
         match future.poll(&mut Context::from_waker(&waker)) {
             Poll::Ready(output) => Ok(output),
             Poll::Pending => Err(Pollable { future, waker }),

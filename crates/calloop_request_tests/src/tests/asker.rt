@@ -2,8 +2,8 @@
 ghost use Rattle.calloop_loop.specs.Askings.{OnlyAsks};
 
 use calloop::{
-    Callback, Choice, Dispatcher, Here, Idle, IdleCallback, Instant, PostAction, RegistrationToken,
-    Requests, There, Ticket, TimeoutAction,
+    Answer, Callback, Choice, Dispatcher, Here, Idle, IdleCallback, Instant, PostAction,
+    RegistrationToken, Requests, There, Ticket, TimeoutAction,
 };
 use calloop_slots::widths::{MOST_SLOTS, VERSIONS};
 use calloop_test_sources::source::Counter;
@@ -29,6 +29,10 @@ pub enum Wish {
     Update(Named),
     Disable(Named),
     Remove(Named),
+    /// Of so many milliseconds.
+    SetDeadline(Named, u64),
+    /// For the source to leave that the request in this place inserted, whose slot and version are said, if the answer is there.
+    Takes(usize),
     /// For one of this number, which asks for nothing, or for the idle of this place to be cancelled and another idle.
     Idle(u32, Option<usize>),
     /// Of the idle in this place of those that were asked for.
@@ -176,6 +180,23 @@ fn is_answered<D: Choice<Counter, Asker, Third> + Drop>(
     }
 }
 
+// Takes the answer of the ticket in this place. Asks for the removal of the source that was inserted, and says its slot and version.
+fn take<D: Choice<Counter, Asker, Third> + Drop>(
+    place: usize,
+    said: &mut Said,
+    requests: &mut Requests<D, Note>,
+) -> Option<Ticket>
+    ensures { OnlyAsks requests.old requests.new }
+{
+    let ticket = *said.tickets.get(place)?;
+    let Some(Answer::Inserted(token)) = requests.answer(ticket) else {
+        return None;
+    };
+    said.number(token.slot());
+    said.number(token.version());
+    requests.remove(token).ok()
+}
+
 fn write<D: Choice<Counter, Asker, Third> + Drop>(
     wish: Wish,
     said: &mut Said,
@@ -192,6 +213,11 @@ fn write<D: Choice<Counter, Asker, Third> + Drop>(
         Wish::Update(token) => requests.update(&token_of(token)).ok(),
         Wish::Disable(token) => requests.disable(&token_of(token)).ok(),
         Wish::Remove(token) => requests.remove(token_of(token)).ok(),
+        Wish::SetDeadline(token, millis) => {
+            let deadline = Instant::from_millis(millis);
+            requests.set_deadline(&token_of(token), deadline).ok()
+        }
+        Wish::Takes(place) => take(place, said, requests),
         Wish::Idle(number, cancels) => {
             let reads = None;
             let note = Note {

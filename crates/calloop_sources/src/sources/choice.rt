@@ -8,6 +8,7 @@ use calloop_poll::sys::synthetic::Synthetic;
 use calloop_poll::sys::{Poller, Readiness};
 use calloop_slots::error::{Error, Failed, Result as LoopResult};
 use calloop_slots::token::{RegistrationToken, Token, TokenFactory};
+use calloop_slots::wheel::Instant;
 use std::marker::PhantomData;
 use std::sync::Wait;
 
@@ -122,6 +123,13 @@ where
         match self {
             OneOf::First(held) => held.before_handle_events(events),
             OneOf::Other(held) => held.before_handle_events(events),
+        }
+    }
+
+    fn try_set_deadline(&mut self, deadline: Instant) -> bool {
+        match self {
+            OneOf::First(held) => held.try_set_deadline(deadline),
+            OneOf::Other(held) => held.try_set_deadline(deadline),
         }
     }
 

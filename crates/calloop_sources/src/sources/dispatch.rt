@@ -9,6 +9,7 @@ use calloop_poll::sys::synthetic::Synthetic;
 use calloop_poll::sys::{Poller, Readiness};
 use calloop_slots::error::{Error, Failed, Result as LoopResult, store_error};
 use calloop_slots::token::{RegistrationToken, Token, TokenFactory};
+use calloop_slots::wheel::Instant;
 use std::sync::Wait;
 
 /// Who owns a slot's entry: the caller, or the loop itself. The calls of a handle reach the caller's alone.
@@ -81,6 +82,7 @@ pub trait Dispatch<P: Poller, C, R: Wait + Drop, X, Q: Asking> {
     ghost use Rattle.calloop_poll.specs.sys.Synthetics.{IsLent};
     ghost use Rattle.calloop_sources.specs.sources.Deeds.{Registered, Reregistered, Unregistered, Turned, Slept, Noticed, Lent, lend};
     ghost use Rattle.calloop_sources.specs.sources.Meanings.{Meaning, Does, Settles, IsKeeping, IsAsking, FailsAsSource};
+    ghost use Rattle.calloop_sources.specs.sources.SetDeadlines.{SetsDeadline};
     ghost use Rattle.calloop_slots.specs.Failures.{with_error};
 
     ghost means: { Meaning Self P (Lent X Q) };
@@ -160,6 +162,15 @@ pub trait Dispatch<P: Poller, C, R: Wait + Drop, X, Q: Asking> {
     fn before_handle_events(&mut self, events: EventIterator<'_>)
         ensures { (v : PollView P)
             → means.does self.old v (Noticed (events_left events.entry)) [] self.new };
+
+    /// Sets the source's deadline, which counts from its next registration on, and returns true. Returns false and does nothing
+    /// if it is no timer, as by default.
+    fn try_set_deadline(&mut self, deadline: Instant) -> bool
+        ensures { SetsDeadline means deadline self.old result self.new }
+    {
+        let _unused = deadline;
+        false
+    }
 
     /// Three laws. It touches no timer counter of another source, and calls at most once for each arming of its own. It uses only
     /// keys of its own registration, from a registration that succeeded on. It asks for at most its limit of events, which stays.
@@ -251,6 +262,10 @@ where
 
     fn before_handle_events(&mut self, events: EventIterator<'_>) {
         self.source.before_handle_events(events);
+    }
+
+    fn try_set_deadline(&mut self, deadline: Instant) -> bool {
+        self.source.try_set_deadline(deadline)
     }
 
     ghost keeps = { keeping_with_callback S.means F.may Q.reaches S.Error.becomes S.keeps };

@@ -11,6 +11,7 @@ use calloop_poll::sys::synthetic::Synthetic;
 use calloop_poll::sys::{Poller, Readiness};
 use calloop_slots::error::{Error, Result as LoopResult};
 use calloop_slots::token::{Token, TokenFactory};
+use calloop_slots::wheel::Instant;
 use std::ops::{BitOr, BitOrAssign};
 use std::sync::Wait;
 
@@ -89,6 +90,7 @@ pub trait EventSource<P: Poller, C, R: Wait + Drop> {
     ghost use Rattle.calloop_poll.specs.sys.Synthetics.{IsLent};
     ghost use Rattle.calloop_sources.specs.sources.Deeds.{Registered, Reregistered, Unregistered, Turned, Slept, Noticed, Heard, new_heard};
     ghost use Rattle.calloop_sources.specs.sources.Meanings.{Meaning, Does, IsKeeping};
+    ghost use Rattle.calloop_sources.specs.sources.SetDeadlines.{SetsDeadline};
 
     /// The argument of its callback.
     type Event;
@@ -158,6 +160,15 @@ pub trait EventSource<P: Poller, C, R: Wait + Drop> {
     fn before_handle_events(&mut self, events: EventIterator<'_>)
         ensures { (v : PollView P)
             → means.does self.old v (Noticed (events_left events.entry)) [] self.new };
+
+    /// Sets its deadline, which counts from its next registration on, and returns true. Returns false and does nothing if it is
+    /// no timer, as by default. In calloop only `Timer` has this.
+    fn try_set_deadline(&mut self, deadline: Instant) -> bool
+        ensures { SetsDeadline means deadline self.old result self.new }
+    {
+        let _unused = deadline;
+        false
+    }
 
     /// Three laws. It touches no timer counter of another source, and calls at most once for each arming of its own. It uses only
     /// keys of its own registration, from a registration that succeeded on. It asks for at most its limit of events, which stays.

@@ -4,8 +4,8 @@ use calloop::channel::{Channel, Event, make_channel};
 use calloop::ping::is_registered_by_its_calls;
 use calloop::transient::{TransientSource, at_most_one_is_registered, wrong_marks_are_ruled_out};
 use calloop::{
-    Both, Dispatcher, Forward, Instant, Movable, On, OneOf, Ping, PingSource, QuietDispatch,
-    Sources, TimeoutAction, Timer, make_ping,
+    Both, Dispatcher, EventSource, Forward, Instant, Movable, On, OneOf, Ping, PingSource,
+    QuietDispatch, Sources, TimeoutAction, Timer, make_ping,
 };
 use calloop_script::{ScriptClock, ScriptPoller};
 use calloop_test_sources::numbered::{Ending, Numbered};
@@ -216,6 +216,32 @@ where
     let held: Held<OneOf<Both<PingPart<R>, PingPart<R>>, Dispatcher<Box<Timer>, Waker>>> =
         Sources::new(OneOf::Other(boxed));
     Some(plays(rt, alloc, held, Vec::new(alloc), acts)?.acts)
+}
+
+/// Whether a deadline of seven milliseconds is set of a timer that is lent, of one in a box, and of a ping; and the timers' deadlines
+/// after that.
+pub fn deadlines_that_are_set<R>(rt: &R, alloc: Global) -> Option<([bool; 3], [Option<Instant>; 2])>
+where
+    R: Wait + Clone + Drop,
+{
+    let mut timer = Timer::from_deadline(Instant::from_millis(5));
+    let lent = is_set(rt, &mut Forward { source: &mut timer });
+    let mut boxed = Box::new(alloc, Timer::from_deadline(Instant::from_millis(5))).ok()?;
+    let is_boxed_set = is_set(rt, &mut boxed);
+    let (_ping, mut source) = make_ping(rt, alloc).ok()?;
+    let is_ping_set = is_set(rt, &mut source);
+    Some((
+        [lent, is_boxed_set, is_ping_set],
+        [timer.current_deadline(), boxed.current_deadline()],
+    ))
+}
+
+fn is_set<R, S>(_rt: &R, source: &mut S) -> bool
+where
+    R: Wait + Drop,
+    S: EventSource<ScriptPoller, ScriptClock, R>,
+{
+    source.try_set_deadline(Instant::from_millis(7))
 }
 
 /// True if two pings as one source ask the loop for nothing when their callbacks don't, as their types say.

@@ -1,4 +1,4 @@
-use Rattle.std.proofs.Common.{◌≡◌, length, ◌∙◌, ap, sym, subst, refl, arith, None, Some, Option, List, false}
+use Rattle.std.proofs.Common.{◌≡◌, length, ◌∙◌, ap, sym, subst, refl, arith, None, Some, List, false}
 use Rattle.calloop_slots.specs.declared.list.Content.TheVariants.{Source, InTurn}
 use Rattle.calloop_slots.specs.declared.token.RegistrationToken.{RegistrationToken}
 use Rattle.calloop_slots.specs.declared.list.Slot.{Slot}
@@ -46,11 +46,9 @@ returns-clause-machine g c =
     let d = c.process_events-answer.new.self in
     let answer = with_error c.process_events-answer.result c.process_events-answer.new.failure in
     let polls : PollView g.row.P.Denot = poll_view c.end_event-2.new.self in
-    let given : Asks g.row.D.Denot g.row.D-Idle.Denot = c.enter_turn-outer.new.self in
+    let given : Asks g.row.D.Denot g.row.D-Idle.Denot = c.enter_turn.new.self in
     let asked : Asks g.row.D.Denot g.row.D-Idle.Denot = c.process_events-answer.new.requests in
-    let back : Asks g.row.D.Denot g.row.D-Idle.Denot = c.leave_turn.new.self in
-    let begun : given ≡ of_turn (registration_of e.token) v.held.asks = c.enter_turn-outer.ensures.asks ∙ ap (λ (r : RegistrationToken). of_turn r v.held.asks) own in
-    let ended : back ≡ record asked { turn = v.held.asks.turn } = c.leave_turn.ensures ∙ ap (λ (o : Option RegistrationToken). record asked { turn = o }) c.enter_turn-outer.ensures.older in
+    let begun : given ≡ of_turn (registration_of e.token) v.held.asks = c.enter_turn.ensures ∙ ap (λ (r : RegistrationToken). of_turn r v.held.asks) own in
     let x = c.args.«data».now in
     let y = c.process_events-answer.new.«data» in
     let found : Some s ≡ source_of (content_at v.slots (registration_of e.token)) = sym (ap (λ k. source_of k) c.in-Ok.ensures.ok) ∙ ap (λ (r : RegistrationToken). source_of (content_at v.slots r)) own in
@@ -58,16 +56,16 @@ returns-clause-machine g c =
     let stands : content_at (with_change (with_content (Source d)) v.slots t.slot) t ≡ Source d = named_changed v.slots t (Source d) full in
     let taken : with_change (with_content InTurn) (with_change (with_content (Source d)) v.slots t.slot) t.slot ≡ with_change (with_content InTurn) v.slots e.token.slot =
     changed_twice InTurn (Source d) v.slots t.slot ∙ ap (λ (r : RegistrationToken). with_change (with_content InTurn) v.slots r.slot) own in
-    let held : View g.row.D.Denot g.row.D-Idle.Denot g.row.P.Denot = record v { slots = with_change (with_content InTurn) (with_change (with_content (Source d)) v.slots t.slot) t.slot; poll = polls; held = record v.held { asks = back } } in
-    let out : View g.row.D.Denot g.row.D-Idle.Denot g.row.P.Denot = record v { slots = with_change (with_content InTurn) v.slots e.token.slot; poll = with_pass None (poll_view c.process_events-answer.new.poll); held = record v.held { asks = back } } in
+    let held : View g.row.D.Denot g.row.D-Idle.Denot g.row.P.Denot = record v { slots = with_change (with_content InTurn) (with_change (with_content (Source d)) v.slots t.slot) t.slot; poll = polls; held = record v.held { asks = asked } } in
+    let out : View g.row.D.Denot g.row.D-Idle.Denot g.row.P.Denot = record v { slots = with_change (with_content InTurn) v.slots e.token.slot; poll = with_pass None (poll_view c.process_events-answer.new.poll); held = record v.held { asks = asked } } in
     let is : held ≡ out =
-    ap (λ (ss : List (Slot g.row.D.Denot)). record v { slots = ss; poll = polls; held = record v.held { asks = back } }) taken
-    ∙ ap (λ (p : PollView g.row.P.Denot). record v { slots = with_change (with_content InTurn) v.slots e.token.slot; poll = p; held = record v.held { asks = back } }) c.end_event-2.ensures in
+    ap (λ (ss : List (Slot g.row.D.Denot)). record v { slots = ss; poll = polls; held = record v.held { asks = asked } }) taken
+    ∙ ap (λ (p : PollView g.row.P.Denot). record v { slots = with_change (with_content InTurn) v.slots e.token.slot; poll = p; held = record v.held { asks = asked } }) c.end_event-2.ensures in
     let after = after_hand_out (with_error c.go_on.result c.go_on.new.failure) y in
     let asks = g.met.D.Dispatch.asks s d (poll_view c.next_event.new.self) e.readiness e.token (lend x given answer y asked) c.process_events-answer.ensures.0 c.process_events-answer.ensures.1 in
     goes_on M R O (Cutting x) (Serving (registration_of e.token) d answer y) after v held (view_of c.go_on.new.self)
     (goes_to M R O (Cutting x) (Serving (registration_of e.token) d answer y) v out held is
-    (turned M R O e v s d answer (poll_view c.next_event.new.self) (poll_view c.process_events-answer.new.poll) x y given asked back c.in-Some.ensures.event found c.next_event.ensures.view begun ended c.process_events-answer.ensures asks))
+    (turned M R O e v s d answer (poll_view c.next_event.new.self) (poll_view c.process_events-answer.new.poll) x y given asked c.in-Some.ensures.event found c.next_event.ensures.view begun c.process_events-answer.ensures asks))
     (subst (λ (r : RegistrationToken). Goes M R O (Serving r d answer y) after held (view_of c.go_on.new.self)) own (c.go_on.ensures.machine d y stands))
 
 pub returns-clause-shorter : goal.returns-clause-shorter

@@ -27,11 +27,13 @@ returns-in-Ok-register-clause-case g c =
     c.end_turn-none.ensures.list
     ∙ ap (λ (s : List (Slot g.row.D.Denot)). after_turn (Source c.hold-held.result) c.in-Ok.token s) c.in-Ok.ensures.ok.2
     ∙ ap (λ (d : g.row.D.Denot). after_turn (Source d) c.in-Ok.token (after_claim v.slots)) c.hold-held.ensures in
-    rw (slots, c.enter.ensures, needs, others.1, others.2, others.3)
+    rw (slots, c.enter.ensures)
+    (rw (needs, others.1)
+    (rw (others.2, others.3)
     (registered g.D.Dispatch.means g.D.Idle.IdleCallback.runs g.P.Poller.outside (view_of c.args.self.now) (g.D.Choice.held (record { source = c.args.source; callback = c.args.callback })) (g.D.Choice.held (record { source = c.register.new.self; callback = c.args.callback }))
     c.in-Ok.token c.register.new.factory (poll_view c.register.new.poll)
     (arc_value c.claim.new.self.signal.shared).name c.claim.new.self.warnings.errors.items c.claim.new.self.stops (ap (λ (s : LoopSignal). (arc_value s.shared).name) others.5) (ap (λ (w : Warnings). w.errors.items) others.4) others.6 c.in-Ok.ensures.ok.0 c.in-Ok.ensures.ok.1
-    (let r = rw (c.new-factory.ensures, c.in-Ok-register.is, others.0) at c.register.ensures in held_reg g.P.Poller.outside g.D.Choice.held _ g.D.Dispatch.means g.met.D.Hold.held_means (record { source = c.args.source; callback = c.args.callback }) (record { source = c.register.new.self; callback = c.args.callback }) _ _ _ _ _ (r.0, (r.1, refl), r.2)))
+    (let r = rw (c.new-factory.ensures, c.in-Ok-register.is, others.0) at c.register.ensures in held_reg g.P.Poller.outside g.D.Choice.held _ g.D.Dispatch.means g.met.D.Hold.held_means (record { source = c.args.source; callback = c.args.callback }) (record { source = c.register.new.self; callback = c.args.callback }) _ _ _ _ _ (r.0, (r.1, refl), r.2)))))
 
 pub returns-in-Err-register-clause-case : goal.returns-in-Err-register-clause-case
 returns-in-Err-register-clause-case g c =

@@ -16,7 +16,7 @@ returns-then-is_in_turn g c =
       Put c.args.token.slot Vacant ∷ Holds (Unlisted c.args.token) ∷ Holds Owe ∷ [],
       own_is _ (content_at ss c.args.token) mine refl,
       (full_named ss c.args.token (turn_full (content_at ss c.args.token) mine), (tt, (tt, tt))),
-      rw (c.vacate.ensures, c.leave.ensures, c.owe.ensures, mine) refl,
+      rw (c.vacate.ensures, c.leave.ensures, c.owe.ensures, c.keep_none_for.ensures, mine) refl,
     )
 
 pub returns : goal.returns

@@ -19,7 +19,7 @@ pub returns-in-Some-settle-clause-machine : goal.returns-in-Some-settle-clause-m
 returns-in-Some-settle-clause-machine g c timeout later x =
     let ss = only (is_adapter g.D.Dispatch.means) (content_at c.args.self.now.sources c.args.token) in
     let is : ss ≡ Source c.in-Some.source = source_is ss c.in-Some.source (sym c.in-Some.ensures.value) in
-    rw (c.vacate.ensures, c.leave.ensures, c.in-Some.ensures.list)
+    rw (c.vacate.ensures, c.leave.ensures, c.keep_none_for.ensures, c.in-Some.ensures.list)
     (gone g.D.Dispatch.means g.D.Idle.IdleCallback.runs g.P.Poller.outside timeout c.args.token later (view_of c.args.self.now) x c.in-Some.source c.settle.new.self c.in-Some-settle.told (poll_view c.settle.new.poll) c.note.ensures.0 c.note.new.self.errors.items is c.note.ensures.1 c.in-Some-settle.ensures.settles)
 
 pub returns-in-None-clause-machine : goal.returns-in-None-clause-machine

@@ -174,6 +174,7 @@ where
     said: Vec<u32>,
     ping: Ping<R>,
     other: Ping<R>,
+    token: RegistrationToken,
     ticket: Rc<Cell<Option<Ticket>>>,
 }
 
@@ -195,13 +196,16 @@ where
     };
     let (ping, source) = make_a_ping(rt, alloc)?;
     let held = <D as Choice<PingSource<R>, Asker<R>, Here>>::hold(Dispatcher::new(source, asker));
-    if let Err(refused) = event_loop.handle().register_dispatcher(held) {
-        so(wants_memory(&refused.error))?;
-        event_loop
-            .handle()
-            .register_dispatcher(refused.inserted)
-            .ok()?;
-    }
+    let token = match event_loop.handle().register_dispatcher(held) {
+        Ok(token) => token,
+        Err(refused) => {
+            so(wants_memory(&refused.error))?;
+            event_loop
+                .handle()
+                .register_dispatcher(refused.inserted)
+                .ok()?
+        }
+    };
     let _receipt = ping.ping();
     let _receipt = other.ping();
     Some(Rung {
@@ -209,6 +213,7 @@ where
         said,
         ping,
         other,
+        token,
         ticket,
     })
 }
@@ -255,7 +260,8 @@ where
     }
 }
 
-// Whether the answers of a dispatch are there as long as the next one is refused, and gone once it isn't.
+// Whether the answers of a dispatch are there as long as the next one is refused, and gone once it isn't. The asker has left: else
+// the answer would wait for its next turn.
 fn keeps_answers<D, R>(rt: &R, alloc: Global) -> Option<bool>
 where
     D: EventDispatcher<ScriptPoller, ScriptClock, R, Data = Vec<u32>, Idle = Note>,
@@ -267,6 +273,7 @@ where
     dispatch(rt, &mut desk.event_loop, &mut desk.said)?;
     so(desk.said.as_slice() == [1, 5].as_slice())?;
     desk.said.clear();
+    drop(desk.event_loop.handle().remove(desk.token)?);
     // So many that the next dispatch needs more room.
     for _ in 0..40u32 {
         let (ping, source) = make_a_ping(rt, alloc)?;
