@@ -16,3 +16,4 @@ pub mod BlockedRounds
 pub mod Limits
 pub mod Rearming
 pub mod Keeping
+pub mod KeptFor

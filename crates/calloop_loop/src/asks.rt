@@ -7,6 +7,7 @@ ghost use Rattle.calloop_loop.specs.declared.asks.Request.TheVariants.{Insert, E
 ghost use Rattle.calloop_loop.specs.declared.asks.Answer.TheVariants.{Removed};
 ghost use Rattle.calloop_loop.specs.Askings.{IsAsked, CannotAsk, OnlyAsks, StandsAt, Take, ask_after, after_begin, without_old, answer_under, idle_begun, is_other_idle, is_source, keeper_of, last_ticket, no_asks, none_kept_for, not_kept_for, of_turn, stays_on, with_answer_owed, with_owed_answer, request_of, running_of, taken_up, with_answer, with_idle, with_new_idle, without, without_idle};
 
+use super::keepers::Keepers;
 use calloop_slots::error::{Error, InsertError, Result};
 use calloop_slots::token::RegistrationToken;
 use calloop_slots::wheel::Instant;
@@ -104,6 +105,8 @@ pub struct Requests<D, I = ()> {
     written: VecDeque<Asked<D, I>>,
     next: u64,
     answers: Vec<Answered<D>>,
+    // The sources for which answers are kept, or were.
+    keepers: Keepers,
     idles: VecDeque<Idling<I>>,
     // The idles of this dispatch that have not run yet.
     running: VecDeque<Idling<I>>,
@@ -117,9 +120,10 @@ pub struct Requests<D, I = ()> {
 }
 
 impl<D, I> Model for Requests<D, I> {
-    ghost use Rattle.std.specs.Prelude.{◌+◌, ◌≤◌, vec_len, vec_capacity};
+    ghost use Rattle.std.specs.Prelude.{◌+◌, ◌<◌, ◌≤◌, IfSome, vec_len, vec_capacity};
     ghost use Rattle.std.specs.VecDeque.{deque_len, deque_capacity};
     ghost use Rattle.calloop_loop.specs.Askings.{Asks, debt};
+    ghost use Rattle.std.specs.List.{All};
 
     ghost Value = { Asks D I };
 
@@ -140,7 +144,9 @@ impl<D, I> Model for Requests<D, I> {
     ghost invariant = { λ r.
         (vec_len r.answers + (deque_len r.written + (debt r.serving + debt r.owed)) ≤ vec_capacity r.answers)
         × (deque_len r.idles + (deque_len r.written + debt r.serving) ≤ deque_capacity r.idles)
-        × (deque_len r.running + (deque_len r.idles + (deque_len r.written + debt r.serving)) ≤ deque_capacity r.running) };
+        × (deque_len r.running + (deque_len r.idles + (deque_len r.written + debt r.serving)) ≤ deque_capacity r.running)
+        × All (λ a. IfSome a.kept_for
+        (λ t. (r.keepers.first ≤ t.slot) × (t.slot < r.keepers.end))) r.answers.items };
 }
 
 impl<D, I> Asking for Requests<D, I> {
@@ -163,6 +169,7 @@ impl<D, I> Requests<D, I> {
             written: VecDeque::new(alloc),
             next: first,
             answers: Vec::new(alloc),
+            keepers: Keepers::none(),
             idles: VecDeque::new(alloc),
             running: VecDeque::new(alloc),
             serving: None,
@@ -433,7 +440,9 @@ impl<D, I> Requests<D, I> {
     pub(super) fn keep_none_for(&mut self, token: RegistrationToken)
         ensures { self.new ≡ none_kept_for token self.old }
     {
-        keep_none(&mut self.answers, token);
+        if self.keepers.may_have(token) {
+            keep_none(&mut self.answers, token);
+        }
     }
 
     // True if nothing is asked for.
@@ -461,12 +470,9 @@ impl<D, I> Requests<D, I> {
     {
         if let Some(ticket) = self.serving {
             self.serving = None;
-            let kept_for = keeper_of(self.turn, &answer);
-            self.answers.push_reserved(Answered {
-                ticket,
-                answer,
-                kept_for,
-            });
+            let answered = answered_in(self.turn, ticket, answer);
+            self.keepers = self.keepers.with(answered.kept_for);
+            self.answers.push_reserved(answered);
         }
     }
 
@@ -658,6 +664,22 @@ fn last_ticket<I>(idles: &VecDeque<Idling<I>>) -> u64
     match idles.back() {
         Some(idle) => idle.ticket,
         None => 0,
+    }
+}
+
+// An answer to a request that was written in this turn.
+fn answered_in<D>(turn: Option<RegistrationToken>, ticket: u64, answer: Answer<D>) -> Answered<D>
+    ensures { result ≡ record {
+      ticket = ticket;
+      answer = answer;
+      kept_for = keeper_of turn answer;
+    } }
+{
+    let kept_for = keeper_of(turn, &answer);
+    Answered {
+        ticket,
+        answer,
+        kept_for,
     }
 }
 

@@ -30,6 +30,7 @@ mod bounds;
 mod calls;
 mod dispatch;
 mod handle;
+mod keepers;
 mod lifecycle;
 mod loops;
 mod registering;

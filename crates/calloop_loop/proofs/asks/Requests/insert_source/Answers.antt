@@ -1,6 +1,7 @@
-use Rattle.std.proofs.Common.{rules, refl}
+use Rattle.std.proofs.Common.{rules, refl, arith}
 use Rattle.calloop_loop.specs.Askings.{Write, asks_on, asks_one}
 use Rattle.calloop_loop.specs.declared.asks.Request.TheVariants.{Insert}
+use Rattle.calloop_loop.proofs.KeptFor.{at_most_one}
 use Rattle.calloop_loop.proofs.asks.Requests.insert_source.Goals as goal
 
 pub returns-in-Err-clause-err : goal.returns-in-Err-clause-err
@@ -10,3 +11,14 @@ returns-in-Err-clause-err g c =
 
 pub returns-clause-asks : goal.returns-clause-asks
 returns-clause-asks g c q h = asks_on q _ _ h (asks_one _ _ (Write (Insert (g.D.Choice.held (record { source = c.args.source; callback = c.args.callback })))) (search rules))
+
+pub invariant_of-self : goal.invariant_of-self
+invariant_of-self g c = (search rules, search rules, search rules, rw c.next_ticket.ensures.items.1 c.self.invariant.3)
+
+pub invariant_of-self-2 : goal.invariant_of-self-2
+invariant_of-self-2 g c =
+    let room = c.in-Ok.ensures.room in
+    let pushed = c.push_back_reserved.ensures in
+    let serving = at_most_one c.self.inside.serving in
+    let owed = at_most_one c.self.inside.owed in
+    (omega (arith, room, pushed, serving, owed), omega (arith, room, pushed, serving), omega (arith, room, pushed, serving), rw c.next_ticket.ensures.items.1 c.self.invariant.3)
