@@ -170,80 +170,6 @@ const CASES: &[(&str, &[Act<'static>])] = &[
         ],
     ),
     (
-        "a_timer_whose_deadline_another_callback_sets_is_called_then",
-        &[
-            Act::Ping(1, &[Wish::SetDeadline((1, 0), 50)]),
-            Act::Timer(10, 2, &[]),
-            Act::Ring(0),
-            Act::Says(Some(100), &[1]),
-            Act::Says(Some(100), &[2]),
-            Act::Says(Some(100), &[]),
-            Act::Asked(&[Some(0), Some(50), Some(100)]),
-        ],
-    ),
-    (
-        "a_timer_whose_deadline_is_set_to_an_earlier_moment_is_called_then",
-        &[
-            Act::Ping(1, &[Wish::SetDeadline((1, 0), 20)]),
-            Act::Timer(70, 2, &[]),
-            Act::Ring(0),
-            Act::Says(Some(100), &[1]),
-            Act::Told(0, &[("done", None)]),
-            Act::Says(Some(100), &[2]),
-            Act::Asked(&[Some(0), Some(20)]),
-        ],
-    ),
-    (
-        "a_timer_whose_deadline_is_set_in_the_batch_is_called_at_the_new_one_alone",
-        &[
-            Act::Timer(0, 1, &[Wish::SetDeadline((1, 0), 30)]),
-            Act::Timer(0, 2, &[]),
-            Act::Says(Some(100), &[1]),
-            Act::Says(Some(100), &[2]),
-            Act::Says(Some(100), &[]),
-            Act::Asked(&[Some(0), Some(30), Some(100)]),
-        ],
-    ),
-    (
-        "a_disabled_timer_whose_deadline_is_set_is_called",
-        &[
-            Act::Ping(1, &[Wish::Disable((1, 0)), Wish::SetDeadline((1, 0), 20)]),
-            Act::Timer(10, 2, &[]),
-            Act::Ring(0),
-            Act::Says(Some(100), &[1]),
-            Act::Told(0, &[("done", None), ("done", None)]),
-            Act::Says(Some(100), &[2]),
-            Act::Asked(&[Some(0), Some(20)]),
-        ],
-    ),
-    (
-        "a_deadline_is_set_of_a_timer_alone_that_is_not_in_its_turn",
-        &[
-            Act::Ping(
-                1,
-                &[
-                    Wish::SetDeadline((0, 0), 5),
-                    Wish::SetDeadline((1, 0), 5),
-                    Wish::SetDeadline((2, 0), 5),
-                ],
-            ),
-            Act::Counter(Some(PostAction::Continue), 3, &[]),
-            Act::Ring(0),
-            Act::Says(Some(100), &[1]),
-            Act::Told(
-                0,
-                &[
-                    ("own turn", None),
-                    ("invalid token", None),
-                    ("invalid token", None),
-                ],
-            ),
-            Act::Counts((1, 0), 1, 0),
-            Act::Says(Some(100), &[]),
-            Act::Asked(&[Some(0), Some(100)]),
-        ],
-    ),
-    (
         "a_callback_that_replaces_its_source_gets_the_next_version_of_the_slot",
         &[
             Act::Counter(
@@ -396,6 +322,100 @@ const CASES: &[(&str, &[Act<'static>])] = &[
         ],
     ),
     (
+        "calls_as_values_queue_and_cancel_idles_and_hand_out_answers_once",
+        &[
+            Act::Ping(7, &[Wish::Register(1)]),
+            Act::Queues(3, false),
+            Act::Queues(4, true),
+            Act::Ring(0),
+            Act::Says(Some(0), &[7, 3]),
+            Act::Answers(0, ("inserted", Some((1, 0)))),
+            Act::Untold(0),
+        ],
+    ),
+];
+
+// Cases of deadlines that are set by request.
+const DEADLINES: &[(&str, &[Act<'static>])] = &[
+    (
+        "a_timer_whose_deadline_another_callback_sets_is_called_then",
+        &[
+            Act::Ping(1, &[Wish::SetDeadline((1, 0), 50)]),
+            Act::Timer(10, 2, &[]),
+            Act::Ring(0),
+            Act::Says(Some(100), &[1]),
+            Act::Says(Some(100), &[2]),
+            Act::Says(Some(100), &[]),
+            Act::Asked(&[Some(0), Some(50), Some(100)]),
+        ],
+    ),
+    (
+        "a_timer_whose_deadline_is_set_to_an_earlier_moment_is_called_then",
+        &[
+            Act::Ping(1, &[Wish::SetDeadline((1, 0), 20)]),
+            Act::Timer(70, 2, &[]),
+            Act::Ring(0),
+            Act::Says(Some(100), &[1]),
+            Act::Told(0, &[("done", None)]),
+            Act::Says(Some(100), &[2]),
+            Act::Asked(&[Some(0), Some(20)]),
+        ],
+    ),
+    (
+        "a_timer_whose_deadline_is_set_in_the_batch_is_called_at_the_new_one_alone",
+        &[
+            Act::Timer(0, 1, &[Wish::SetDeadline((1, 0), 30)]),
+            Act::Timer(0, 2, &[]),
+            Act::Says(Some(100), &[1]),
+            Act::Says(Some(100), &[2]),
+            Act::Says(Some(100), &[]),
+            Act::Asked(&[Some(0), Some(30), Some(100)]),
+        ],
+    ),
+    (
+        "a_disabled_timer_whose_deadline_is_set_is_called",
+        &[
+            Act::Ping(1, &[Wish::Disable((1, 0)), Wish::SetDeadline((1, 0), 20)]),
+            Act::Timer(10, 2, &[]),
+            Act::Ring(0),
+            Act::Says(Some(100), &[1]),
+            Act::Told(0, &[("done", None), ("done", None)]),
+            Act::Says(Some(100), &[2]),
+            Act::Asked(&[Some(0), Some(20)]),
+        ],
+    ),
+    (
+        "a_deadline_is_set_of_a_timer_alone_that_is_not_in_its_turn",
+        &[
+            Act::Ping(
+                1,
+                &[
+                    Wish::SetDeadline((0, 0), 5),
+                    Wish::SetDeadline((1, 0), 5),
+                    Wish::SetDeadline((2, 0), 5),
+                ],
+            ),
+            Act::Counter(Some(PostAction::Continue), 3, &[]),
+            Act::Ring(0),
+            Act::Says(Some(100), &[1]),
+            Act::Told(
+                0,
+                &[
+                    ("own turn", None),
+                    ("invalid token", None),
+                    ("invalid token", None),
+                ],
+            ),
+            Act::Counts((1, 0), 1, 0),
+            Act::Says(Some(100), &[]),
+            Act::Asked(&[Some(0), Some(100)]),
+        ],
+    ),
+];
+
+// Cases of answers that wait for the next turn of who asked.
+const WAITING_ANSWERS: &[(&str, &[Act<'static>])] = &[
+    (
         "a_source_finds_the_token_that_it_asked_for_in_its_next_turn_and_has_its_source_removed",
         &[
             Act::Ping(7, &[Wish::Takes(0), Wish::Insert(1, PostAction::Continue)]),
@@ -487,23 +507,25 @@ const CASES: &[(&str, &[Act<'static>])] = &[
             Act::Untold(1),
         ],
     ),
-    (
-        "calls_as_values_queue_and_cancel_idles_and_hand_out_answers_once",
-        &[
-            Act::Ping(7, &[Wish::Register(1)]),
-            Act::Queues(3, false),
-            Act::Queues(4, true),
-            Act::Ring(0),
-            Act::Says(Some(0), &[7, 3]),
-            Act::Answers(0, ("inserted", Some((1, 0)))),
-            Act::Untold(0),
-        ],
-    ),
 ];
 
 #[test]
 fn each_case_goes_as_it_is_to(rt: HostRuntime) {
     for (name, acts) in CASES {
+        assert_eq!(rt; plays(&rt, rt.alloc(), acts), None, "{name}");
+    }
+}
+
+#[test]
+fn each_deadline_is_set_as_it_is_to(rt: HostRuntime) {
+    for (name, acts) in DEADLINES {
+        assert_eq!(rt; plays(&rt, rt.alloc(), acts), None, "{name}");
+    }
+}
+
+#[test]
+fn each_answer_waits_as_long_as_it_is_to(rt: HostRuntime) {
+    for (name, acts) in WAITING_ANSWERS {
         assert_eq!(rt; plays(&rt, rt.alloc(), acts), None, "{name}");
     }
 }

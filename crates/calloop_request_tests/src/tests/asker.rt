@@ -189,12 +189,19 @@ fn take<D: Choice<Counter, Asker, Third> + Drop>(
     ensures { OnlyAsks requests.old requests.new }
 {
     let ticket = *said.tickets.get(place)?;
-    let Some(Answer::Inserted(token)) = requests.answer(ticket) else {
-        return None;
-    };
+    let answer = requests.answer(ticket)?;
+    let token = inserted(&answer)?;
     said.number(token.slot());
     said.number(token.version());
     requests.remove(token).ok()
+}
+
+// The token of the source that was inserted.
+fn inserted<D>(answer: &Answer<D>) -> Option<RegistrationToken> {
+    match answer {
+        Answer::Inserted(token) => Some(*token),
+        _ => None,
+    }
 }
 
 fn write<D: Choice<Counter, Asker, Third> + Drop>(
