@@ -35,7 +35,9 @@ pub use task::{Blocked, Context, Future, Poll, Waker};
 /// In a clause it is its tally, as a `PingSource` is.
 pub struct Executor<Fut: Drop, R: Wait + Drop> {
     end: ReceivingEnd<ExecutorCore, R>,
-    homes: SharedHomes<Fut, R>,
+    homes: SharedHomes<Fut>,
+    // The waker of the task that is polled: what it is made of isn't made anew for each.
+    waker: Waker<R>,
 }
 
 impl<Fut: Drop, R: Wait + Drop> Model for Executor<Fut, R> {
@@ -66,16 +68,22 @@ pub fn make_executor<Fut: Future<R>, R: Wait + Clone + Drop>(
     let homes = Arc::new(alloc, Locked::new(alloc, homes, &of_homes)?)?;
     let of_executor = share(rt, &homes);
     let (sending, receiving) = make_ends(rt, alloc, locked, right)?;
+    let waker = Waker::of_executor(rt.clone()?, share(rt, &receiving.shared), alloc);
     let executor = Executor {
         end: receiving,
         homes: of_executor,
+        waker,
     };
-    Ok((executor, Scheduler::of(sending, homes, alloc)))
+    Ok((executor, Scheduler::of(sending, homes)))
 }
 
 impl<Fut: Drop, R: Wait + Drop> Drop for Executor<Fut, R> {
     fn drop(self) {
-        let Executor { end, homes } = self;
+        let Executor {
+            end,
+            homes,
+            waker: _,
+        } = self;
         let rt = end.abandon();
         homes::close(&rt, &homes);
     }

@@ -33,7 +33,7 @@ impl Keepers {
         }
     }
 
-    // False if no answer is kept for this source.
+    // True if an answer may be kept for this source: if false, none is.
     pub(super) fn may_have(self, token: RegistrationToken) -> bool
         ensures { result ≡ (nat_le self.first token.slot && nat_lt token.slot self.end) }
     {

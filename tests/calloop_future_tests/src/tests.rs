@@ -96,6 +96,25 @@ const CASES: &[(&str, &[Act<'static>])] = &[
         ],
     ),
     (
+        "each_of_two_futures_of_an_executor_is_woken_for_itself",
+        &[
+            Act::Make,
+            Act::Insert,
+            Act::Wait(7),
+            Act::Other,
+            Act::Wait(8),
+            Act::Says(Some(0), &[]),
+            Act::Wake(1),
+            Act::Other,
+            Act::Wake(1),
+            Act::Says(Some(100), &[8, 7]),
+            Act::Polled(2),
+            Act::Other,
+            Act::Polled(2),
+            Act::Asked(&[Some(0), Some(0)]),
+        ],
+    ),
+    (
         "what_is_woken_while_its_executor_is_disabled_is_polled_once_that_is_enabled",
         &[
             Act::Make,

@@ -1,5 +1,5 @@
 //! The sections of the lock that guards an executor's futures. This isn't the lock of its cell, which its wakers reach. Within it
-//! no future is polled or dropped.
+//! no future is polled or dropped: what comes out of a place is dropped once the lock is given up.
 ghost use Rattle.std.specs.Prelude.{◌≡◌, ◌+◌, IfOk, IfSome, IfNone};
 
 use super::task::Pollable;
@@ -12,12 +12,12 @@ use std::alloc::Global;
 use std::sync::{Arc, Wait};
 
 /// The places of an executor's futures, under their lock. In a clause `tag` is the name of its cell.
-pub(crate) type SharedHomes<Fut, R> = Arc<Locked<Homes<Pollable<Fut, R>>>, Global>;
+pub(crate) type SharedHomes<Fut> = Arc<Locked<Homes<Pollable<Fut>>>, Global>;
 
 /// Reserves a place for a future that is to come.
-pub(crate) fn reserve<Fut: Drop, R: Wait + Drop>(
+pub(crate) fn reserve<Fut: Drop, R: Wait>(
     rt: &R,
-    homes: &Locked<Homes<Pollable<Fut, R>>>,
+    homes: &Locked<Homes<Pollable<Fut>>>,
 ) -> Result<ReservedPlace, PutRefusal>
     ensures { IfOk result (λ place. place.name ≡ homes.now.tag) }
 {
@@ -33,12 +33,12 @@ pub(crate) fn reserve<Fut: Drop, R: Wait + Drop>(
 
 /// Keeps the future of a task that was put, which yields the task's receipt, and says whether a turn has looked for the future
 /// before. If the executor is gone, the future is dropped.
-pub(crate) fn keep<Fut: Drop, R: Wait + Drop>(
+pub(crate) fn keep<Fut: Drop, R: Wait>(
     rt: &R,
-    homes: &Locked<Homes<Pollable<Fut, R>>>,
+    homes: &Locked<Homes<Pollable<Fut>>>,
     due: DueReceipt,
     place: ReservedPlace,
-    held: Pollable<Fut, R>,
+    held: Pollable<Fut>,
 ) -> (Receipt, bool)
     requires due { due.name ≡ homes.now.tag }
     requires place { (place.name ≡ due.name) × (place.home ≡ due.home) }
@@ -51,19 +51,20 @@ pub(crate) fn keep<Fut: Drop, R: Wait + Drop>(
         Ok(Place::Missed) => true,
         _ => false,
     };
-    drop(before);
     (receipt, missed)
 }
 
 impl<R: Wait + Drop> ReceivingEnd<ExecutorCore, R> {
-    /// Takes the future of a popped task, for its poll. If the future is still to come, `keep` tells its scheduler so, and the
-    /// tally counts that.
+    /// Takes the future of a popped task, for its poll, and frees the place of the task that was finished before. If the future is
+    /// still to come, `keep` tells its scheduler so, and the tally counts that.
     pub(crate) fn take_future<Fut: Drop>(
         &mut self,
-        homes: &Locked<Homes<Pollable<Fut, R>>>,
+        homes: &Locked<Homes<Pollable<Fut>>>,
         popped: PoppedTask,
-    ) -> Option<TakenFuture<Pollable<Fut, R>>>
+        finished: Option<PoppedTask>,
+    ) -> Option<TakenFuture<Pollable<Fut>>>
         requires popped { popped.name ≡ homes.now.tag }
+        requires finished { IfSome finished (λ task. task.name ≡ homes.now.tag) }
         requires tally { self.old.tally.name ≡ homes.now.tag }
         ensures tag { self.new.tag ≡ self.old.tag }
         ensures some { IfSome result
@@ -72,56 +73,58 @@ impl<R: Wait + Drop> ReceivingEnd<ExecutorCore, R> {
             (self.new.tally ≡ record self.old.tally { misses = self.old.tally.misses + 1 }) }
     {
         let mut places = homes.lock(&self.rt);
-        let taken = places.core().take(popped, &mut self.tally);
+        let core = places.core();
+        let _before = match finished {
+            Some(task) => core.finish(task),
+            None => None,
+        };
+        let taken = core.take(popped, &mut self.tally);
         places.unlock();
         taken
     }
 }
 
 /// Puts back a future that is still pending after its poll.
-pub(crate) fn put_back<Fut: Drop, R: Wait + Drop>(
+pub(crate) fn put_back<Fut: Drop, R: Wait>(
     rt: &R,
-    homes: &Locked<Homes<Pollable<Fut, R>>>,
-    taken: TakenFuture<Pollable<Fut, R>>,
+    homes: &Locked<Homes<Pollable<Fut>>>,
+    taken: TakenFuture<Pollable<Fut>>,
 )
     requires { taken.task.name ≡ homes.now.tag }
 {
     let mut places = homes.lock(rt);
-    let before = places.core().put_back(taken);
+    let _before = places.core().put_back(taken);
     places.unlock();
-    drop(before);
 }
 
 /// Frees the place of a finished task.
-pub(crate) fn finish<Fut: Drop, R: Wait + Drop>(
+pub(crate) fn finish<Fut: Drop, R: Wait>(
     rt: &R,
-    homes: &Locked<Homes<Pollable<Fut, R>>>,
+    homes: &Locked<Homes<Pollable<Fut>>>,
     task: PoppedTask,
 )
     requires { task.name ≡ homes.now.tag }
 {
     let mut places = homes.lock(rt);
-    let before = places.core().finish(task);
+    let _before = places.core().finish(task);
     places.unlock();
-    drop(before);
 }
 
 /// Frees a place that was reserved for a task which wasn't put.
-pub(crate) fn free<Fut: Drop, R: Wait + Drop>(
+pub(crate) fn free<Fut: Drop, R: Wait>(
     rt: &R,
-    homes: &Locked<Homes<Pollable<Fut, R>>>,
+    homes: &Locked<Homes<Pollable<Fut>>>,
     place: ReservedPlace,
 )
     requires { place.name ≡ homes.now.tag }
 {
     let mut places = homes.lock(rt);
-    let before = places.core().free(place);
+    let _before = places.core().free(place);
     places.unlock();
-    drop(before);
 }
 
 /// Drops all futures, since the executor is gone.
-pub(crate) fn close<Fut: Drop, R: Wait + Drop>(rt: &R, homes: &Locked<Homes<Pollable<Fut, R>>>) {
+pub(crate) fn close<Fut: Drop, R: Wait>(rt: &R, homes: &Locked<Homes<Pollable<Fut>>>) {
     let mut places = homes.lock(rt);
     let left = places.core().close();
     places.unlock();

@@ -6,12 +6,11 @@ ghost use Rattle.calloop_ends.specs.futures.Polled.{IsRefusalOf, IsDestroyed};
 use super::cell;
 use super::errors::{ExecutorDestroyed, ScheduleError};
 use super::homes::{self, SharedHomes};
-use super::task::{Future, Pollable, Waker};
+use super::task::{Future, Pollable};
 use crate::cell::SendingEnd;
-use calloop_poll::sys::hub::share;
 use calloop_wake::Receipt;
 use calloop_wake::executor::{ExecutorCore, PutRefusal};
-use std::alloc::{AllocError, Global};
+use std::alloc::AllocError;
 use std::marker::Model;
 use std::sync::{Arc, Wait};
 
@@ -21,8 +20,7 @@ use std::sync::{Arc, Wait};
 #[derive(Drop)]
 pub struct Scheduler<Fut: Drop, R: Wait + Drop> {
     end: SendingEnd<ExecutorCore, R>,
-    homes: SharedHomes<Fut, R>,
-    alloc: Global,
+    homes: SharedHomes<Fut>,
 }
 
 impl<Fut: Drop, R: Wait + Drop> Model for Scheduler<Fut, R> {
@@ -52,19 +50,15 @@ where
 }
 
 impl<Fut: Drop, R: Wait + Drop> Scheduler<Fut, R> {
-    pub(crate) fn of(
-        end: SendingEnd<ExecutorCore, R>,
-        homes: SharedHomes<Fut, R>,
-        alloc: Global,
-    ) -> Scheduler<Fut, R>
+    pub(crate) fn of(end: SendingEnd<ExecutorCore, R>, homes: SharedHomes<Fut>) -> Scheduler<Fut, R>
         requires { (arc_value homes).tag ≡ end }
         ensures { result ≡ end }
     {
-        Scheduler { end, homes, alloc }
+        Scheduler { end, homes }
     }
 }
 
-impl<Fut: Future<R>, R: Wait + Clone + Drop> Scheduler<Fut, R> {
+impl<Fut: Future<R>, R: Wait + Drop> Scheduler<Fut, R> {
     /// Hands a future over, to be polled in a later turn of the executor. The receipt is of a task of this very executor.
     ///
     /// If the executor is gone, it fails with `Destroyed`, and the future is dropped. Without memory it fails and hands the
@@ -75,17 +69,13 @@ impl<Fut: Future<R>, R: Wait + Clone + Drop> Scheduler<Fut, R> {
     {
         let (end, homes) = (&self.end, &self.homes);
         let SendingEnd { rt, shared, .. } = end;
-        let Ok(own) = rt.clone() else {
-            return Err(ScheduleError::OutOfMemory(future));
-        };
         let place = match homes::reserve(rt, homes) {
             Ok(place) => place,
             Err(why) => return Err(refusal(future, why)),
         };
         match end.put(place.home()) {
             Ok((key, due)) => {
-                let waker = Waker::of_task(own, share(rt, shared), key, self.alloc);
-                let held = Pollable { future, waker };
+                let held = Pollable::new(future, key);
                 let (receipt, missed) = homes::keep(rt, homes, due, place, held);
                 if missed {
                     cell::wake(rt, shared, key);
@@ -108,10 +98,6 @@ impl<Fut: Drop, R: Wait + Clone + Drop> Clone for Scheduler<Fut, R> {
     fn clone(&self) -> Result<Scheduler<Fut, R>, AllocError> {
         let end = self.end.clone()?;
         let homes = Arc::try_clone(&self.homes)?;
-        Ok(Scheduler {
-            end,
-            homes,
-            alloc: self.alloc,
-        })
+        Ok(Scheduler { end, homes })
     }
 }

@@ -1,5 +1,5 @@
 //! An executor as a source of the loop.
-ghost use Rattle.std.specs.Prelude.{◌≡◌, ◌≤◌, ◌+◌, List, length};
+ghost use Rattle.std.specs.Prelude.{◌≡◌, ◌≤◌, ◌+◌, List, length, IfSome, is_some};
 ghost use Rattle.calloop_wake.specs.Cells.{one};
 ghost use Rattle.calloop_wake.specs.Executors.{at_start, most_tasks};
 ghost use Rattle.calloop_sources.specs.sources.Calls.{Went};
@@ -38,40 +38,53 @@ impl IntoError for ExecutorError {
 }
 
 impl<Fut: Future<R>, R: Wait + Drop> Executor<Fut, R> {
-    // Polls a task outside of every lock, and calls back if its future is ready. True if it is.
+    // Polls a task outside of every lock, and calls back if its future is ready. Returns the task if it is: the poll of the next
+    // one frees its place.
     fn poll_task<F, X, Q>(
         &mut self,
         popped: PoppedTask,
+        finished: Option<PoppedTask>,
         callback: &mut F,
         data: &mut X,
         requests: &mut Q,
-    ) -> bool
+    ) -> Option<PoppedTask>
     where
         Q: Asking,
         F: Callback<Fut::Output, (), (), X, Q>,
-        requires { popped.name ≡ self.old.name }
-        ensures { (polled : OfPop Fut.Output) × (result ≡ gave polled)
+        requires popped { popped.name ≡ self.old.name }
+        requires finished { IfSome finished (λ task. task.name ≡ self.old.name) }
+        ensures task { IfSome result (λ task. task.name ≡ self.old.name) }
+        ensures polled { (polled : OfPop Fut.Output) × (is_some result ≡ gave polled)
             × ComesOf Fut.gives Fut.polls polled
             × (self.new ≡ record self.old { misses = self.old.misses + one (lacks polled) })
             × Went F.may Q.reaches callback.old «data».old requests.old (call_of polled)
             callback.new «data».new requests.new }
     {
-        let Some(taken) = self.end.take_future(&self.homes, popped) else {
-            return false;
+        let Some(taken) = self.end.take_future(&self.homes, popped, finished) else {
+            return None;
         };
         let TakenFuture { future, task } = taken;
         let ReceivingEnd { rt, .. } = &self.end;
         let homes = &self.homes;
-        let output = match future.poll() {
+        let output = match self.waker.poll(future) {
             Ok(output) => output,
             Err(future) => {
                 homes::put_back(rt, homes, TakenFuture { future, task });
-                return false;
+                return None;
             }
         };
-        homes::finish(rt, homes, task);
         callback.call(output, &mut (), data, requests);
-        true
+        Some(task)
+    }
+
+    // Frees the place of the task that was finished last, if there is one.
+    fn free_place(&self, finished: Option<PoppedTask>)
+        requires { IfSome finished (λ task. task.name ≡ self.now.name) }
+    {
+        if let Some(task) = finished {
+            let ReceivingEnd { rt, .. } = &self.end;
+            homes::finish(rt, &self.homes, task);
+        }
     }
 
     // The pops of a turn, each with its poll, up to one that finds no task, or 1,024.
@@ -96,14 +109,18 @@ impl<Fut: Future<R>, R: Wait + Drop> Executor<Fut, R> {
             callback.new «data».new requests.new }
     {
         let mut turn = turn;
-        let mut finished = false;
+        let mut finished = None;
         'pops: while turn.goes_on() {
-            finished = match self.end.pop(&mut turn, finished) {
-                Some(popped) => self.poll_task(popped, callback, data, requests),
-                None => false,
+            finished = match self.end.pop(&mut turn, finished.is_some()) {
+                Some(popped) => self.poll_task(popped, finished, callback, data, requests),
+                None => {
+                    self.free_place(finished);
+                    None
+                }
             };
         }
-        self.end.end_turn(turn, finished);
+        self.end.end_turn(turn, finished.is_some());
+        self.free_place(finished);
     }
 }
 

@@ -35,6 +35,12 @@ pub struct Waker<R: Wait + Drop> {
 // cell.
 type Awake = Arc<AtomicBool, Global>;
 
+// The key of no task: an executor's waker has it until its first poll.
+const NOBODY: TaskKey = TaskKey {
+    slot: usize::MAX,
+    number: u64::MAX,
+};
+
 // What is woken.
 #[derive(Drop)]
 enum Wakes<R: Wait + Drop> {
@@ -90,29 +96,16 @@ fn flag_in<R: Wait>(rt: &R, awake: &OnceLock<Awake>, alloc: Global) -> Result<Aw
 }
 
 impl<R: Wait + Drop> Waker<R> {
-    pub(crate) fn of_task(
-        rt: R,
-        shared: SharedCell<ExecutorCore>,
-        key: TaskKey,
-        alloc: Global,
-    ) -> Waker<R> {
+    /// Makes the waker with which an executor polls its tasks, one after the other.
+    pub(crate) fn of_executor(rt: R, shared: SharedCell<ExecutorCore>, alloc: Global) -> Waker<R> {
         Waker {
             wakes: Wakes::Task {
                 rt,
                 shared,
-                key,
+                key: NOBODY,
                 awake: OnceLock::new(),
                 alloc,
             },
-        }
-    }
-
-    // Clears the flag before a poll: a wake from now on queues the task again. The poll sees what was written before earlier wakes.
-    pub(crate) fn begin_poll(&self) {
-        if let Wakes::Task { awake, .. } = &self.wakes {
-            if let Some(awake) = awake.get() {
-                let _was = awake.swap(false, Ordering::SeqCst);
-            }
         }
     }
 
@@ -229,26 +222,67 @@ pub trait Future<R: Wait + Drop>: Drop {
         ensures polled { polls self.old result self.new };
 }
 
-/// A future with its waker, as an executor keeps it.
+/// A future as an executor keeps it, with the key of its task, and with the task's flag once there is one.
 #[derive(Drop)]
-pub(crate) struct Pollable<Fut: Drop, R: Wait + Drop> {
+pub(crate) struct Pollable<Fut: Drop> {
     pub(crate) future: Fut,
-    pub(crate) waker: Waker<R>,
+    key: TaskKey,
+    awake: Option<Awake>,
 }
 
-impl<Fut: Future<R>, R: Wait + Drop> Pollable<Fut, R> {
-    /// Polls once: returns the future's result, or the future back.
-    pub(crate) fn poll(self) -> Result<Fut::Output, Pollable<Fut, R>>
-        ensures gives { IfOk result (Fut.gives self.future) }
+impl<Fut: Drop> Pollable<Fut> {
+    /// The future of a task that wasn't polled yet.
+    pub(crate) fn new(future: Fut, key: TaskKey) -> Pollable<Fut> {
+        Pollable {
+            future,
+            key,
+            awake: None,
+        }
+    }
+}
+
+impl<R: Wait + Drop> Waker<R> {
+    // Makes this the waker of a task that is to be polled, and clears the task's flag: a wake from now on queues it again. The
+    // poll sees what was written before earlier wakes.
+    fn begin_poll(&mut self, task: TaskKey, flag: Option<Awake>) {
+        if let Wakes::Task { rt, key, awake, .. } = &mut self.wakes {
+            *key = task;
+            if let Some(flag) = flag {
+                let _was = flag.swap(false, Ordering::SeqCst);
+                let _ = awake.set(rt, flag);
+            }
+        }
+    }
+
+    // Takes the flag of the task back, if it has one: the first clone of the waker made it.
+    fn end_poll(&mut self) -> Option<Awake> {
+        match &mut self.wakes {
+            Wakes::Task { awake, .. } if awake.get().is_some() => awake.take(),
+            _ => None,
+        }
+    }
+
+    /// Polls a future once, with this as the waker of its task: returns the future's result, or the future back.
+    pub(crate) fn poll<Fut: Future<R>>(
+        &mut self,
+        held: Pollable<Fut>,
+    ) -> Result<Fut::Output, Pollable<Fut>>
+        ensures gives { IfOk result (Fut.gives held.future) }
         ensures ready { IfOk result (λ output. (after : Fut)
-            × Fut.polls self.future (Ready output) after) }
-        ensures pending { IfErr result (λ back. Fut.polls self.future Pending back.future) }
+            × Fut.polls held.future (Ready output) after) }
+        ensures pending { IfErr result (λ back. Fut.polls held.future Pending back.future) }
     {
-        let Pollable { mut future, waker } = self;
-        waker.begin_poll();
-        match future.poll(&mut Context::from_waker(&waker)) {
+        let Pollable {
+            mut future,
+            key,
+            awake,
+        } = held;
+        self.begin_poll(key, awake);
+        let polled = future.poll(&mut Context::from_waker(self));
+        let awake = self.end_poll();
+        match polled {
             Poll::Ready(output) => Ok(output),
-            Poll::Pending => Err(Pollable { future, waker }),
+            Poll::Pending => Err(Pollable { future, key, awake }),
         }
     }
 }

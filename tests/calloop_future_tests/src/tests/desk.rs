@@ -6,6 +6,7 @@ use calloop::loop_logic::EventLoop;
 use calloop::{Choice, Dispatcher, Error, EventDispatcher, Here, On, RegistrationToken, Sources};
 use calloop_script::{ScriptClock, ScriptPoller};
 use std::alloc::Global;
+use std::mem;
 use std::ops::Range;
 use std::sync::atomic::{AtomicU32, Ordering};
 use std::sync::{Arc, Wait};
@@ -37,6 +38,8 @@ pub enum Act<'a> {
     Yield(u32, u32),
     /// A future that hands its waker out at its first poll, and gives this at its second.
     Wait(u32),
+    /// From now on `Wait`, `Wake` and `Polled` are of another such future: of the one before the next time.
+    Other,
     /// One that gives nothing, and counts its drop.
     Fall,
     /// So many futures that count their drop were dropped.
@@ -79,6 +82,7 @@ where
     event_loop: EventLoop<D, ScriptPoller, ScriptClock, R>,
     said: Vec<u32>,
     outbox: Arc<Outbox<R>, Global>,
+    other: Arc<Outbox<R>, Global>,
     fallen: Arc<AtomicU32, Global>,
     schedulers: Vec<Scheduler<Job<R>, R>>,
     executor: Option<Executor<Job<R>, R>>,
@@ -98,12 +102,14 @@ where
         let clock = poller.clock().ok()?;
         let event_loop = EventLoop::try_new(rt, alloc, poller, clock).ok()?;
         let of_outbox = rt.clone().ok()?;
+        let of_other = rt.clone().ok()?;
         Some(Desk {
             rt: rt.clone().ok()?,
             alloc,
             event_loop,
             said: Vec::new(alloc),
             outbox: Arc::new(alloc, Outbox::new(of_outbox)).ok()?,
+            other: Arc::new(alloc, Outbox::new(of_other)).ok()?,
             fallen: Arc::new(alloc, AtomicU32::new(0)).ok()?,
             schedulers: Vec::new(alloc),
             executor: None,
@@ -155,6 +161,10 @@ where
             }
             Act::Yield(times, number) => self.schedules(Job::Yields(times, number)),
             Act::Wait(number) => self.waits(number).is_some(),
+            Act::Other => {
+                mem::swap(&mut self.outbox, &mut self.other);
+                true
+            }
             Act::Fall => self.falls().is_some(),
             Act::Fallen(count) => self.fallen.load(Ordering::SeqCst) == count,
             Act::Wake(times) => self.outbox.wakes(times),

@@ -2,8 +2,8 @@ use Rattle.std.proofs.Common.{◌≡◌, ◌+◌, ℕ, ◌∙◌, ap, refl, arit
 use Rattle.calloop_ends.specs.futures.Executors.{Gave}
 use Rattle.calloop_ends.proofs.futures.Executor.poll_task.Goals as goal
 
-pub returns : goal.returns
-returns g c =
+pub returns-clause-polled : goal.returns-clause-polled
+returns-clause-polled g c =
     let none : c.args.self.now.misses ≡ c.args.self.now.misses + 0 = omega arith in (
       Gave c.in-Ok.output,
       refl,
