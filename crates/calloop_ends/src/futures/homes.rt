@@ -2,7 +2,7 @@
 //! no future is polled or dropped: what comes out of a place is dropped once the lock is given up.
 ghost use Rattle.std.specs.Prelude.{◌≡◌, ◌+◌, IfOk, IfSome, IfNone};
 
-use super::task::Pollable;
+use super::task::{FinishedTask, Pollable};
 use crate::cell::ReceivingEnd;
 use calloop_wake::Receipt;
 use calloop_wake::executor::{ExecutorCore, PutRefusal};
@@ -61,10 +61,10 @@ impl<R: Wait + Drop> ReceivingEnd<ExecutorCore, R> {
         &mut self,
         homes: &Locked<Homes<Pollable<Fut>>>,
         popped: PoppedTask,
-        finished: Option<PoppedTask>,
+        finished: Option<FinishedTask>,
     ) -> Option<TakenFuture<Pollable<Fut>>>
         requires popped { popped.name ≡ homes.now.tag }
-        requires finished { IfSome finished (λ task. task.name ≡ homes.now.tag) }
+        requires finished { IfSome finished (λ done. done.task.name ≡ homes.now.tag) }
         requires tally { self.old.tally.name ≡ homes.now.tag }
         ensures tag { self.new.tag ≡ self.old.tag }
         ensures some { IfSome result
@@ -75,7 +75,7 @@ impl<R: Wait + Drop> ReceivingEnd<ExecutorCore, R> {
         let mut places = homes.lock(&self.rt);
         let core = places.core();
         let _before = match finished {
-            Some(task) => core.finish(task),
+            Some(task) => task.leave(core),
             None => None,
         };
         let taken = core.take(popped, &mut self.tally);
@@ -101,12 +101,12 @@ pub(crate) fn put_back<Fut: Drop, R: Wait>(
 pub(crate) fn finish<Fut: Drop, R: Wait>(
     rt: &R,
     homes: &Locked<Homes<Pollable<Fut>>>,
-    task: PoppedTask,
+    finished: FinishedTask,
 )
-    requires { task.name ≡ homes.now.tag }
+    requires { finished.task.name ≡ homes.now.tag }
 {
     let mut places = homes.lock(rt);
-    let _before = places.core().finish(task);
+    let _before = finished.leave(places.core());
     places.unlock();
 }
 

@@ -6,7 +6,7 @@ ghost use Rattle.calloop_sources.specs.sources.Calls.{Went};
 ghost use Rattle.calloop_ends.specs.futures.Executors.{OfPop, gave, lacks, ComesOf, AllGiven, call_of, calls_of, results_of, misses_of};
 
 use super::errors::ExecutorError;
-use super::task::Future;
+use super::task::{FinishedTask, Future};
 use super::{Executor, homes};
 use crate::cell::ReceivingEnd;
 use crate::cell::source::{CellSource, take_turn};
@@ -18,7 +18,7 @@ use calloop_slots::error::{Error, Result as LoopResult};
 use calloop_slots::token::{Token, TokenFactory};
 use calloop_sources::sources::{Asking, Callback, EventSource, IntoError, PostAction};
 use calloop_wake::executor::TaskTurn;
-use calloop_wake::homes::{PoppedTask, TakenFuture};
+use calloop_wake::homes::PoppedTask;
 use calloop_wake::{TakenPass, Tally};
 use std::sync::Wait;
 
@@ -43,17 +43,17 @@ impl<Fut: Future<R>, R: Wait + Drop> Executor<Fut, R> {
     fn poll_task<F, X, Q>(
         &mut self,
         popped: PoppedTask,
-        finished: Option<PoppedTask>,
+        finished: Option<FinishedTask>,
         callback: &mut F,
         data: &mut X,
         requests: &mut Q,
-    ) -> Option<PoppedTask>
+    ) -> Option<FinishedTask>
     where
         Q: Asking,
         F: Callback<Fut::Output, (), (), X, Q>,
         requires popped { popped.name ≡ self.old.name }
-        requires finished { IfSome finished (λ task. task.name ≡ self.old.name) }
-        ensures task { IfSome result (λ task. task.name ≡ self.old.name) }
+        requires finished { IfSome finished (λ done. done.task.name ≡ self.old.name) }
+        ensures finished { IfSome result (λ done. done.task.name ≡ self.old.name) }
         ensures polled { (polled : OfPop Fut.Output) × (is_some result ≡ gave polled)
             × ComesOf Fut.gives Fut.polls polled
             × (self.new ≡ record self.old { misses = self.old.misses + one (lacks polled) })
@@ -63,23 +63,22 @@ impl<Fut: Future<R>, R: Wait + Drop> Executor<Fut, R> {
         let Some(taken) = self.end.take_future(&self.homes, popped, finished) else {
             return None;
         };
-        let TakenFuture { future, task } = taken;
-        let ReceivingEnd { rt, .. } = &self.end;
-        let homes = &self.homes;
-        let output = match self.waker.poll(future) {
-            Ok(output) => output,
-            Err(future) => {
-                homes::put_back(rt, homes, TakenFuture { future, task });
-                return None;
+        match self.waker.poll(taken) {
+            Ok((output, task)) => {
+                callback.call(output, &mut (), data, requests);
+                Some(task)
             }
-        };
-        callback.call(output, &mut (), data, requests);
-        Some(task)
+            Err(pending) => {
+                let ReceivingEnd { rt, .. } = &self.end;
+                homes::put_back(rt, &self.homes, pending);
+                None
+            }
+        }
     }
 
     // Frees the place of the task that was finished last, if there is one.
-    fn free_place(&self, finished: Option<PoppedTask>)
-        requires { IfSome finished (λ task. task.name ≡ self.now.name) }
+    fn free_place(&self, finished: Option<FinishedTask>)
+        requires { IfSome finished (λ done. done.task.name ≡ self.now.name) }
     {
         if let Some(task) = finished {
             let ReceivingEnd { rt, .. } = &self.end;

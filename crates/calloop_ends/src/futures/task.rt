@@ -1,5 +1,6 @@
 //! Futures, the argument of their polls, and the wakers that wake them.
-ghost use Rattle.std.specs.Prelude.{⊤, IfOk, IfErr};
+ghost use Rattle.std.specs.Prelude.{◌≡◌, ◌≢◌, ℕ, None, ⊤, IfOk, IfErr};
+ghost use Rattle.calloop_wake.specs.Homes.{place_in};
 ghost use Rattle.calloop_ends.specs.declared.futures.task.Poll.{Poll};
 ghost use Rattle.calloop_ends.specs.declared.futures.task.Poll.TheVariants.{Ready, Pending};
 ghost use Rattle.calloop_ends.specs.futures.Polled.{IfReady, OnPending};
@@ -10,6 +11,7 @@ use crate::ping::Ping;
 use calloop_poll::signal::LoopSignal;
 use calloop_poll::sys::hub::share;
 use calloop_wake::executor::ExecutorCore;
+use calloop_wake::homes::{Homes, Place, PoppedTask, TakenFuture};
 use calloop_wake::tasks::TaskKey;
 use std::alloc::{AllocError, Global};
 use std::sync::atomic::{AtomicBool, Ordering};
@@ -241,6 +243,28 @@ impl<Fut: Drop> Pollable<Fut> {
     }
 }
 
+/// A task whose future was ready. A poll that gives a result makes it, and nothing turns it back into a popped task, so that it
+/// can't be taken for one that is to be polled.
+#[must_use]
+pub(crate) struct FinishedTask {
+    task: PoppedTask,
+}
+
+impl FinishedTask {
+    /// Frees the place of the task.
+    pub(crate) fn leave<F: Drop>(self, homes: &mut Homes<F>) -> Option<Place<F>>
+        requires { self.task.name ≡ homes.old.name }
+        ensures gives { result ≡ place_in homes.old self.task.home }
+        ensures freed { place_in homes.new self.task.home ≡ None }
+        ensures others { (other : ℕ) → other ≢ self.task.home
+            → place_in homes.new other ≡ place_in homes.old other }
+        ensures name { homes.new.name ≡ homes.old.name }
+    {
+        let FinishedTask { task } = self;
+        homes.finish(task)
+    }
+}
+
 impl<R: Wait + Drop> Waker<R> {
     // Makes this the waker of a task that is to be polled, and clears the task's flag: a wake from now on queues it again. The
     // poll sees what was written before earlier wakes.
@@ -262,16 +286,19 @@ impl<R: Wait + Drop> Waker<R> {
         }
     }
 
-    /// Polls a future once, with this as the waker of its task: returns the future's result, or the future back.
+    /// Polls a future once, with this as the waker of its task: returns the future's result and the task, or the future back.
     pub(crate) fn poll<Fut: Future<R>>(
         &mut self,
-        held: Pollable<Fut>,
-    ) -> Result<Fut::Output, Pollable<Fut>>
-        ensures gives { IfOk result (Fut.gives held.future) }
-        ensures ready { IfOk result (λ output. (after : Fut)
-            × Fut.polls held.future (Ready output) after) }
-        ensures pending { IfErr result (λ back. Fut.polls held.future Pending back.future) }
+        taken: TakenFuture<Pollable<Fut>>,
+    ) -> Result<(Fut::Output, FinishedTask), TakenFuture<Pollable<Fut>>>
+        ensures gives { IfOk result (λ ready. Fut.gives taken.future.future ready.0) }
+        ensures ready { IfOk result (λ ready. (after : Fut)
+            × Fut.polls taken.future.future (Ready ready.0) after) }
+        ensures finished { IfOk result (λ ready. ready.1.task ≡ taken.task) }
+        ensures pending { IfErr result (λ back. (back.task ≡ taken.task)
+            × Fut.polls taken.future.future Pending back.future.future) }
     {
+        let TakenFuture { future: held, task } = taken;
         let Pollable {
             mut future,
             key,
@@ -281,8 +308,11 @@ impl<R: Wait + Drop> Waker<R> {
         let polled = future.poll(&mut Context::from_waker(self));
         let awake = self.end_poll();
         match polled {
-            Poll::Ready(output) => Ok(output),
-            Poll::Pending => Err(Pollable { future, key, awake }),
+            Poll::Ready(output) => Ok((output, FinishedTask { task })),
+            Poll::Pending => Err(TakenFuture {
+                future: Pollable { future, key, awake },
+                task,
+            }),
         }
     }
 }

@@ -67,7 +67,7 @@ pops-preserved-in-Some g c =
         omega (arith, missed, kept, more_missed),
         polled_more (ComesOf g.Fut.Future.gives g.Fut.Future.polls) g.F.Callback.may g.Q.Asking.reaches c.args.callback.now c.args.data.now c.args.requests.now so.0 s.0 so.1 so.2 so.3 _ _ _ _ _ _ so.7 s.2 s.4,
       ),
-      subst (λ n. IfSome c.poll_task.result (λ task. task.name ≡ n)) (sym (ap (λ (t : Tally). t.name) s.3)) c.poll_task.ensures.task,
+      subst (λ n. IfSome c.poll_task.result (λ done. done.task.name ≡ n)) (sym (ap (λ (t : Tally). t.name) s.3)) c.poll_task.ensures.finished,
     )
 
 pub returns : goal.returns

@@ -14,7 +14,7 @@ invariant-pops g l =
     × (count + one l.turn.progress.dry ≡ l.turn.progress.pops)
     × (l.self.number + one (is_some l.finished) ≡ l.fn.self.number + results) × (l.self.misses ≡ l.fn.self.misses + misses)
     × Polled (ComesOf g.Fut.Future.gives g.Fut.Future.polls) g.F.Callback.may g.Q.Asking.reaches l.fn.callback l.fn.«data» l.fn.requests ps count results misses l.callback l.«data» l.requests)
-    × IfSome l.finished (λ task. task.name ≡ l.self.name)
+    × IfSome l.finished (λ done. done.task.name ≡ l.self.name)
 
 abbrev pub decreases-pops : goal.decreases-pops
 decreases-pops g l = most_tasks - l.turn.progress.pops
