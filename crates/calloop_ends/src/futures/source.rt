@@ -63,17 +63,16 @@ impl<Fut: Future<R>, R: Wait + Drop> Executor<Fut, R> {
         let Some(taken) = self.end.take_future(&self.homes, popped, finished) else {
             return None;
         };
-        match self.waker.poll(taken) {
-            Ok((output, task)) => {
-                callback.call(output, &mut (), data, requests);
-                Some(task)
-            }
+        let (output, task) = match self.waker.poll(taken) {
+            Ok(ready) => ready,
             Err(pending) => {
                 let ReceivingEnd { rt, .. } = &self.end;
                 homes::put_back(rt, &self.homes, pending);
-                None
+                return None;
             }
-        }
+        };
+        callback.call(output, &mut (), data, requests);
+        Some(task)
     }
 
     // Frees the place of the task that was finished last, if there is one.
