@@ -40,8 +40,18 @@ struct Parked<R: Wait + Drop> {
 }
 
 impl<R: Wait + Drop> Parked<R> {
-    fn exchange(&self, waker: Option<Waker<R>>) -> Option<Waker<R>> {
-        mem::replace(&mut *self.waker.lock(&self.rt), waker)
+    fn put(&self, waker: Waker<R>) {
+        let before = mem::replace(&mut *self.waker.lock(&self.rt), Some(waker));
+        drop(before);
+    }
+
+    fn take(&self) -> Option<Waker<R>> {
+        let mut waker = self.waker.lock(&self.rt);
+        // An empty place isn't moved out.
+        if waker.is_none() {
+            return None;
+        }
+        waker.take()
     }
 }
 
@@ -58,7 +68,7 @@ impl<R: Wait + Drop, X> On<Instant, X, TimeoutAction> for WakesTimeout<R> {
         ensures same { self.new ≡ self.old }
         ensures data { «_data».new ≡ «_data».old }
     {
-        if let Some(waker) = self.parked.exchange(None) {
+        if let Some(waker) = self.parked.take() {
             waker.wake();
         }
         TimeoutAction::Drop
@@ -310,13 +320,16 @@ impl<C: Clock, R: Wait + Clone + Drop> Future<R> for TimeoutFuture<C, R> {
             → HasCome (C.shows self.old.clock) self.old.deadline true) }
         ensures ready { HasCome (C.shows self.old.clock) self.old.deadline (is_ready result) }
     {
-        if self.has_come() {
-            return Poll::Ready(());
+        if !self.has_come() {
+            match cx.waker().clone() {
+                Ok(waker) => self.parked.put(waker),
+                Err(_) => cx.waker().wake(),
+            }
+            // In another thread, the timer may have found no waker since.
+            if !self.has_come() {
+                return Poll::Pending;
+            }
         }
-        match cx.waker().clone() {
-            Ok(waker) => drop(self.parked.exchange(Some(waker))),
-            Err(_) => cx.waker().wake(),
-        }
-        Poll::Pending
+        Poll::Ready(())
     }
 }
