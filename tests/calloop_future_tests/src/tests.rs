@@ -11,6 +11,7 @@ mod job;
 mod machine;
 mod memory;
 mod moved;
+mod passing;
 mod places;
 mod streams;
 mod threads;
