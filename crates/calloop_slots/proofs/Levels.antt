@@ -165,21 +165,23 @@ word-filled ws p h = grind (arith, nat_tests)
 
 -- the word keeps a bit
 kept-level : (vacant : ℕ → Bool) (ws : List ℕ) (p : ℕ) (t : Taken) (below below' : List (List ℕ)) → 0 < word_at ws p → word_at ws p < 2 ^ 64 → t.emptied ≡ false
-    → Takes vacant (least_bit ws p) t below below' → AreLevels vacant (ws ∷ below) → Takes vacant p t (ws ∷ below) (ws ∷ below')
+    → Takes vacant (least_bit ws p) t below below' → AreLevels vacant (ws ∷ below)
+    → Takes vacant p (record { slot = t.slot; emptied = false }) (ws ∷ below) (ws ∷ below')
 kept-level vacant ws p t below below' some fits kept T are =
-    takes-level vacant ws ws p (least_bit ws p) t t.emptied below below' are (word-filled ws p some) (least_bit-set ws p some fits) (least_bit-least ws p some fits)
+    takes-level vacant ws ws p (least_bit ws p) t false below below' are (word-filled ws p some) (least_bit-set ws p some fits) (least_bit-least ws p some fits)
     (λ i. unchanged (is_set ws) (least_bit ws p) (least_bit-set ws p some fits) i ∙ ap (λ b. with_slot (least_bit ws p) (not b) (is_set ws) i) (sym kept))
-    (λ q. unchanged (is_filled ws) p (word-filled ws p some) q ∙ ap (λ b. with_slot p (not b) (is_filled ws) q) (sym kept)) T
+    (λ q. unchanged (is_filled ws) p (word-filled ws p some) q) T
 
 pub takes-kept : (vacant : ℕ → Bool) (ls : List (List ℕ)) (ws : List ℕ) (p w : ℕ) (t : Taken) (below below' : List (List ℕ)) → ls ≡ ws ∷ below → w ≡ word_at ws p → 0 < w → w < 2 ^ 64 → not t.emptied ≡ true
-    → (AreLevels vacant below → Takes vacant (p * 64 + trailing_zeros w64 w) t below below') → AreLevels vacant ls → Takes vacant p t ls (ws ∷ below')
+    → (AreLevels vacant below → Takes vacant (p * 64 + trailing_zeros w64 w) t below below') → AreLevels vacant ls
+    → Takes vacant p (record { slot = t.slot; emptied = false }) ls (ws ∷ below')
 takes-kept vacant ls ws p w t below below' is word some fits kept T are =
     let are' : AreLevels vacant (ws ∷ below) = subst (λ (l : List (List ℕ)). AreLevels vacant l) is are in
     let some' : 0 < word_at ws p = omega arith in
     let fits' : word_at ws p < 2 ^ 64 = omega arith in
     let T' : Takes vacant (least_bit ws p) t below below' = subst (λ (x : ℕ). Takes vacant (p * 64 + trailing_zeros w64 x) t below below') word (T are'.1) in
     let off : t.emptied ≡ false = grind arith in
-    subst (λ (l : List (List ℕ)). Takes vacant p t l (ws ∷ below')) (sym is) (kept-level vacant ws p t below below' some' fits' off T' are')
+    subst (λ (l : List (List ℕ)). Takes vacant p (record { slot = t.slot; emptied = false }) l (ws ∷ below')) (sym is) (kept-level vacant ws p t below below' some' fits' off T' are')
 
 -- a bit of the word is cleared
 abbrev cleared : ℕ → ℕ

@@ -131,7 +131,10 @@ fn take(levels: &mut [Words], place: usize, steps: &mut Steps) -> Option<Taken>
         return None;
     };
     if !taken.emptied {
-        return Some(taken);
+        return Some(Taken {
+            slot: taken.slot,
+            emptied: false,
+        });
     }
     let rest = word & !(1 << bit);
     level.write(place, rest);
