@@ -8,10 +8,12 @@ ghost use Rattle.calloop_wake.specs.Executors.{cell_of, at_start, debt_between, 
 use super::bell::Bell;
 use super::cell::CellCore;
 use super::ghosts::{Count, Name};
-use super::homes::{DueReceipt, KeepingRight, PoppedTask};
+use super::homes::{DueReceipt, KeepingRight, MissedTask, PoppedTask};
 use super::locked::Core;
 use super::tasks::{TaskKey, Tasks};
-use super::{ClosePermit, Debt, Last, OpenedPass, ReceivingRight, Sender, TakenPass, Tally};
+use super::{
+    ClosePermit, Debt, Last, OpenedPass, Receipt, ReceivingRight, Sender, TakenPass, Tally,
+};
 use counted_slot::Fits;
 use std::alloc::{AllocError, Global};
 use std::marker::Model;
@@ -247,6 +249,20 @@ impl ExecutorCore {
         } else {
             None
         }
+    }
+
+    /// Wakes a task that a turn missed, which is its receipt from then on. Owes what `wake` owes.
+    pub fn wake_missed(&mut self, missed: MissedTask) -> (Receipt, Option<Debt>)
+        requires { missed.name ≡ self.old.name }
+        ensures receipt { result.0 ≡ record { name = missed.name; number = missed.number } }
+        ensures cell { cell_of self.new ≡ after_wake missed.key (cell_of self.old) }
+        ensures names { (self.new.name ≡ self.old.name) × (self.new.board ≡ self.old.board) }
+        ensures gives { result.1
+            ≡ on self.old.board (debt_between (cell_of self.old) (cell_of self.new)) }
+    {
+        let MissedTask { name, number, key } = missed;
+        let debt = self.wake(key);
+        (Receipt { name, number }, debt)
     }
 
     /// True if the task of this key is queued, or was woken during its poll. Then a wake of it changes nothing.

@@ -30,6 +30,15 @@ pub struct DueReceipt {
     pub(crate) home: usize,
 }
 
+/// A task whose future came after a turn had looked for it, put into the cell of this name. Has no `Drop`: the wake that it still
+/// needs turns it into its receipt.
+#[must_use]
+pub struct MissedTask {
+    pub(crate) name: Name,
+    pub(crate) number: Count,
+    pub(crate) key: TaskKey,
+}
+
 /// A task that was popped from the cell of this name; its future is to be polled.
 #[must_use]
 pub struct PoppedTask {
@@ -186,17 +195,23 @@ impl<F: Drop> Homes<F> {
         }
     }
 
-    /// Keeps the future of a task that was put, in its place, and returns a receipt of the task. If the executor is gone, and with it
-    /// its places, the future comes back. The first part of the result is true if a turn has looked for it before.
+    /// Keeps the future of a task that was put, in its place, and returns the task's receipt, or the task itself if a turn has
+    /// looked for the future before: then it has to be woken. The second part is what was in the place, or the future if there is
+    /// no such place, since the executor is gone.
     pub fn keep(
         &mut self,
         due: DueReceipt,
         place: ReservedPlace,
         future: F,
-    ) -> (Receipt, Result<Place<F>, Place<F>>)
+    ) -> (Result<Receipt, MissedTask>, Result<Place<F>, Place<F>>)
         requires due { due.name ≡ self.old.name }
         requires place { (place.name ≡ due.name) × (place.home ≡ due.home) }
-        ensures receipt { result.0 ≡ record { name = due.name; number = due.number } }
+        ensures receipt { IfOk result.0 (λ receipt.
+            receipt ≡ record { name = due.name; number = due.number }) }
+        ensures missed { IfErr result.0 (λ missed. missed
+            ≡ record { name = due.name; number = due.number; key = due.key }) }
+        ensures looked { IfErr result.0 (λ _. place_in self.old due.home ≡ Some Missed) }
+        ensures unlooked { IfOk result.0 (λ _. place_in self.old due.home ≢ Some Missed) }
         ensures kept { IfOk result.1 (λ before.
             place_in self.new due.home ≡ Some (Here due.key future)) }
         ensures was { IfOk result.1 (λ before. place_in self.old due.home ≡ Some before) }
@@ -214,7 +229,10 @@ impl<F: Drop> Homes<F> {
         } = due;
         let ReservedPlace { name: _, home: _ } = place;
         let before = self.put(home, Place::Here(key, future));
-        (Receipt { name, number }, before)
+        if let Ok(Place::Missed) = &before {
+            return (Err(MissedTask { name, number, key }), before);
+        }
+        (Ok(Receipt { name, number }), before)
     }
 
     /// Takes the future of a popped task out of its place, for its poll. If it isn't there, the place notes that a turn has looked

@@ -11,10 +11,10 @@ ghost use Rattle.calloop_slots.specs.declared.error.Error.TheVariants.{OutOfMemo
 use crate::cell::{Cell, ReceivingEnd, SendingEnd, post};
 use calloop_slots::error::Result as LoopResult;
 use calloop_wake::executor::{ExecutorCore, PutRefusal, PutTask, TaskTurn};
-use calloop_wake::homes::{DueReceipt, KeepingRight, PoppedTask};
+use calloop_wake::homes::{DueReceipt, KeepingRight, MissedTask, PoppedTask};
 use calloop_wake::locked::{Held, Locked};
 use calloop_wake::tasks::TaskKey;
-use calloop_wake::{ReceivingRight, TakenPass};
+use calloop_wake::{Receipt, ReceivingRight, TakenPass};
 use std::alloc::Global;
 use std::sync::Wait;
 
@@ -52,6 +52,20 @@ impl<R: Wait + Drop> SendingEnd<ExecutorCore, R> {
                 Err(refusal)
             }
         }
+    }
+
+    /// Wakes a task whose future came after a turn had looked for it, which yields its receipt.
+    pub(crate) fn wake_missed(&self, missed: MissedTask) -> Receipt
+        requires { missed.name ≡ self.now }
+        ensures { result.name ≡ self.now }
+    {
+        let mut held = self.shared.lock(&self.rt);
+        let cell = held.core();
+        let (receipt, debt) = cell.core.wake_missed(missed);
+        let owed = cell.with_hub(&self.rt, debt);
+        held.unlock();
+        post(&self.rt, owed);
+        receipt
     }
 }
 

@@ -1,12 +1,14 @@
 //! The sections of the lock that guards an executor's futures. This isn't the lock of its cell, which its wakers reach. Within it
 //! no future is polled or dropped: what comes out of a place is dropped once the lock is given up.
-ghost use Rattle.std.specs.Prelude.{◌≡◌, ◌+◌, IfOk, IfSome, IfNone};
+ghost use Rattle.std.specs.Prelude.{◌≡◌, ◌+◌, IfOk, IfErr, IfSome, IfNone};
 
 use super::task::{FinishedTask, Pollable};
 use crate::cell::ReceivingEnd;
 use calloop_wake::Receipt;
 use calloop_wake::executor::{ExecutorCore, PutRefusal};
-use calloop_wake::homes::{DueReceipt, Homes, Place, PoppedTask, ReservedPlace, TakenFuture};
+use calloop_wake::homes::{
+    DueReceipt, Homes, MissedTask, PoppedTask, ReservedPlace, TakenFuture,
+};
 use calloop_wake::locked::Locked;
 use std::alloc::Global;
 use std::sync::{Arc, Wait};
@@ -31,27 +33,24 @@ pub(crate) fn reserve<Fut: Drop, R: Wait>(
     }
 }
 
-/// Keeps the future of a task that was put, which yields the task's receipt, and says whether a turn has looked for the future
-/// before. If the executor is gone, the future is dropped.
+/// Keeps the future of a task that was put, which yields the task's receipt, or the task itself if a turn has looked for the
+/// future before. If the executor is gone, the future is dropped.
 pub(crate) fn keep<Fut: Drop, R: Wait>(
     rt: &R,
     homes: &Locked<Homes<Pollable<Fut>>>,
     due: DueReceipt,
     place: ReservedPlace,
     held: Pollable<Fut>,
-) -> (Receipt, bool)
+) -> Result<Receipt, MissedTask>
     requires due { due.name ≡ homes.now.tag }
     requires place { (place.name ≡ due.name) × (place.home ≡ due.home) }
-    ensures { result.0.name ≡ homes.now.tag }
+    ensures receipt { IfOk result (λ receipt. receipt.name ≡ homes.now.tag) }
+    ensures missed { IfErr result (λ missed. missed.name ≡ homes.now.tag) }
 {
     let mut places = homes.lock(rt);
-    let (receipt, before) = places.core().keep(due, place, held);
+    let (kept, _before) = places.core().keep(due, place, held);
     places.unlock();
-    let missed = match &before {
-        Ok(Place::Missed) => true,
-        _ => false,
-    };
-    (receipt, missed)
+    kept
 }
 
 impl<R: Wait + Drop> ReceivingEnd<ExecutorCore, R> {

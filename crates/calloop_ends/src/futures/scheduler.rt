@@ -3,7 +3,6 @@ ghost use Rattle.std.specs.Prelude.{◌≡◌, IfOk, IfErr};
 ghost use Rattle.std.specs.Arc.{arc_value};
 ghost use Rattle.calloop_ends.specs.futures.Polled.{IsRefusalOf, IsDestroyed};
 
-use super::cell;
 use super::errors::{ExecutorDestroyed, ScheduleError};
 use super::homes::{self, SharedHomes};
 use super::task::{Future, Pollable};
@@ -68,7 +67,7 @@ impl<Fut: Future<R>, R: Wait + Drop> Scheduler<Fut, R> {
         ensures err { IfErr result (IsRefusalOf future) }
     {
         let (end, homes) = (&self.end, &self.homes);
-        let SendingEnd { rt, shared, .. } = end;
+        let SendingEnd { rt, .. } = end;
         let place = match homes::reserve(rt, homes) {
             Ok(place) => place,
             Err(why) => return Err(refusal(future, why)),
@@ -76,11 +75,10 @@ impl<Fut: Future<R>, R: Wait + Drop> Scheduler<Fut, R> {
         match end.put(place.home()) {
             Ok((key, due)) => {
                 let held = Pollable::new(future, key);
-                let (receipt, missed) = homes::keep(rt, homes, due, place, held);
-                if missed {
-                    cell::wake(rt, shared, key);
+                match homes::keep(rt, homes, due, place, held) {
+                    Ok(receipt) => Ok(receipt),
+                    Err(missed) => Ok(end.wake_missed(missed)),
                 }
-                Ok(receipt)
             }
             Err(why) => {
                 homes::free(rt, homes, place);

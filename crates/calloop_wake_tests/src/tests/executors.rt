@@ -8,7 +8,7 @@ use calloop_wake::Tally;
 use calloop_wake::cell::CellCore;
 use calloop_wake::executor::{ExecutorCore, PutRefusal, PutTask, TaskTurn};
 use calloop_wake::ghosts::Name;
-use calloop_wake::homes::Homes;
+use calloop_wake::homes::{Homes, PoppedTask};
 use calloop_wake::locked::Locked;
 use calloop_wake::tasks::{TaskKey, Tasks};
 use std::alloc::Global;
@@ -107,6 +107,17 @@ fn an_executor_that_is_gone_takes_no_task_and_wakes_none(rt: HostRuntime) {
 }
 
 #[test]
+fn a_task_is_woken_if_its_future_is_kept_after_a_turn_looked_for_it(rt: HostRuntime) {
+    let mut desk = Desk::new(&rt, rt.alloc());
+    let mut crew = Crew::new(&rt, rt.alloc(), &desk);
+    assert!(rt; crew.registers(&rt, 7));
+    assert!(rt; crew.keeps_late(&rt, rt.alloc(), &mut desk));
+    assert!(rt; crew.serves(&rt, rt.alloc(), &mut desk, &[PENDING], &[0], false));
+    assert!(rt; desk.is_quiet(&rt));
+    crew.leave(&rt);
+}
+
+#[test]
 fn each_task_of_a_table_is_queued_once(rt: HostRuntime) {
     let mut tasks = Tasks::new(rt.alloc()).expect(&rt, "a table");
     let slot = tasks.put(0, 10).expect(&rt, "a slot");
@@ -200,6 +211,31 @@ impl Crew {
         }
     }
 
+    // Puts a task of the first place, and keeps its future only once a turn has looked for it: whether that turn missed it, and the
+    // wake which the task needs sets a mark.
+    fn keeps_late<R: Wait + Abort>(&mut self, rt: &R, alloc: Global, desk: &mut Desk) -> bool {
+        let Some(Ok(place)) = self.homes.reserve() else {
+            return false;
+        };
+        let PutTask { key: _, due, debt } = match self.core.put(place.home()) {
+            Ok(put) => put,
+            Err(_) => {
+                let _none = self.homes.free(place);
+                return false;
+            }
+        };
+        post(rt, &self.board, debt);
+        let pops = self.serves(rt, alloc, desk, &[PENDING], &[0], false);
+        let (kept, _missed) = self.homes.keep(due, place, ());
+        match kept {
+            Ok(_receipt) => false,
+            Err(task) => {
+                let (_receipt, debt) = self.core.wake_missed(task);
+                post(rt, &self.board, debt) && pops
+            }
+        }
+    }
+
     // Puts as many tasks: whether all were put.
     fn puts<R: Wait>(&mut self, rt: &R, count: usize) -> bool {
         let mut all = true;
@@ -265,8 +301,9 @@ impl Crew {
 
     // Opens a turn with the first marked key.
     fn open<R: Wait>(&mut self, rt: &R, alloc: Global, desk: &mut Desk) -> Option<TaskTurn>
-        ensures { IfSome result (λ turn. (turn.name ≡ self.new.core.name)
+        ensures turn { IfSome result (λ turn. (turn.name ≡ self.new.core.name)
             × (turn.progress.pops ≡ 0)) }
+        ensures name { self.new.core.name ≡ self.old.core.name }
     {
         let mut passes = desk.take_passes(rt, alloc, &mut Steps::new()).ok()?;
         let first = passes.pop_front();
@@ -283,6 +320,16 @@ impl Crew {
         }
     }
 
+    // Looks for the future of a popped task, and puts it back.
+    fn look(&mut self, popped: PoppedTask)
+        requires { popped.name ≡ self.old.core.name }
+        ensures { self.new.core ≡ self.old.core }
+    {
+        if let Some(taken) = self.homes.take(popped, &mut self.tally) {
+            let _none = self.homes.put_back(taken);
+        }
+    }
+
     // Makes all the pops that the turn may make, and ends it: whether that set a mark anew. The poll of a pop beyond the list is
     // pending.
     fn pop_all<R: Wait + Abort>(
@@ -293,6 +340,7 @@ impl Crew {
         homes: &mut Vec<usize>,
     ) -> bool
         requires { (turn.name ≡ self.old.core.name) × (turn.progress.pops ≡ 0) }
+        ensures { self.new.core.name ≡ self.old.core.name }
     {
         let mut turn = turn;
         let mut finished = false;
@@ -301,7 +349,7 @@ impl Crew {
             finished = match self.core.pop(&mut turn, &mut self.tally, finished) {
                 Some(popped) => {
                     let home = popped.home();
-                    let _none = self.homes.finish(popped);
+                    self.look(popped);
                     let polled = polls.get(homes.len()).copied().unwrap_or(PENDING);
                     let _ = homes.push(home);
                     self.poll(rt, polled)
@@ -321,7 +369,9 @@ impl Crew {
         alloc: Global,
         desk: &mut Desk,
         polls: &[Polled],
-    ) -> (Vec<usize>, bool) {
+    ) -> (Vec<usize>, bool)
+        ensures { self.new.core.name ≡ self.old.core.name }
+    {
         let mut homes = Vec::new(alloc);
         let posted = match self.open(rt, alloc, desk) {
             Some(turn) => self.pop_all(rt, turn, polls, &mut homes),
@@ -339,7 +389,9 @@ impl Crew {
         polls: &[Polled],
         wanted: &[usize],
         marked: bool,
-    ) -> bool {
+    ) -> bool
+        ensures { self.new.core.name ≡ self.old.core.name }
+    {
         let (homes, posted) = self.serve(rt, alloc, desk, polls);
         homes.as_slice() == wanted && posted == marked
     }
