@@ -48,6 +48,13 @@ pub struct PoppedTask {
 }
 
 impl PoppedTask {
+    /// The key by which it is woken.
+    pub fn key(&self) -> TaskKey
+        ensures { result ≡ self.now.key }
+    {
+        self.key
+    }
+
     /// The place of its future.
     pub fn home(&self) -> usize
         ensures { result ≡ self.now.home }
@@ -254,30 +261,20 @@ impl<F: Drop> Homes<F> {
             → place_in self.new other ≡ place_in self.old other }
         ensures name { self.new.name ≡ self.old.name }
     {
-        let before = match self.put(popped.home, Place::Empty) {
-            Ok(before) => before,
-            Err(back) => back,
-        };
-        match before {
-            Place::Here(key, future) => {
-                if key == popped.key {
-                    return Some(TakenFuture {
-                        future,
-                        task: popped,
-                    });
+        if let Some(places) = &mut self.places {
+            if let Some(place) = places.get_mut(popped.home) {
+                if let Place::Here(key, future) = mem::replace(place, Place::Empty) {
+                    if key == popped.key {
+                        return Some(TakenFuture {
+                            future,
+                            task: popped,
+                        });
+                    }
                 }
-                self.miss(popped, tally);
-                None
-            }
-            Place::Missed => {
-                self.miss(popped, tally);
-                None
-            }
-            Place::Empty => {
-                self.miss(popped, tally);
-                None
             }
         }
+        self.miss(popped, tally);
+        None
     }
 
     // The future of a popped task is still to come.
@@ -354,10 +351,10 @@ impl<F: Drop> Homes<F> {
             → place_in self.new other ≡ place_in self.old other }
         ensures name { self.new.name ≡ self.old.name }
     {
-        match &mut self.places {
-            Some(places) => places.try_remove(home),
-            None => None,
-        }
+        let Some(places) = &mut self.places else {
+            return None;
+        };
+        places.try_remove(home)
     }
 
     /// The executor is gone: its futures are returned, to be dropped outside of the lock.

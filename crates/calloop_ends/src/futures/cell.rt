@@ -32,20 +32,20 @@ pub fn new_locked(alloc: Global) -> LoopResult<(Locked<TaskCell>, ReceivingRight
 }
 
 impl<R: Wait + Drop> SendingEnd<ExecutorCore, R> {
-    /// Makes a new task and queues it. The second value returns its receipt once its future is kept.
-    pub(crate) fn put(&self, home: usize) -> Result<(TaskKey, DueReceipt), PutRefusal>
-        ensures name { IfOk result (λ put. put.1.name ≡ self.now) }
-        ensures home { IfOk result (λ put. put.1.home ≡ home) }
+    /// Makes a new task and queues it. Returns what makes its receipt once its future is kept.
+    pub(crate) fn put(&self, home: usize) -> Result<DueReceipt, PutRefusal>
+        ensures name { IfOk result (λ due. due.name ≡ self.now) }
+        ensures home { IfOk result (λ due. due.home ≡ home) }
     {
         let mut held = self.shared.lock(&self.rt);
         let cell = held.core();
         match cell.core.put(home) {
             Ok(put) => {
-                let PutTask { key, due, debt } = put;
+                let PutTask { key: _, due, debt } = put;
                 let owed = cell.with_hub(&self.rt, debt);
                 held.unlock();
                 post(&self.rt, owed);
-                Ok((key, due))
+                Ok(due)
             }
             Err(refusal) => {
                 held.unlock();

@@ -73,13 +73,10 @@ impl<Fut: Future<R>, R: Wait + Drop> Scheduler<Fut, R> {
             Err(why) => return Err(refusal(future, why)),
         };
         match end.put(place.home()) {
-            Ok((key, due)) => {
-                let held = Pollable::new(future, key);
-                match homes::keep(rt, homes, due, place, held) {
-                    Ok(receipt) => Ok(receipt),
-                    Err(missed) => Ok(end.wake_missed(missed)),
-                }
-            }
+            Ok(due) => match homes::keep(rt, homes, due, place, Pollable::new(future)) {
+                Ok(receipt) => Ok(receipt),
+                Err(missed) => Ok(end.wake_missed(missed)),
+            },
             Err(why) => {
                 homes::free(rt, homes, place);
                 Err(refusal(future, why))

@@ -224,20 +224,18 @@ pub trait Future<R: Wait + Drop>: Drop {
         ensures polled { polls self.old result self.new };
 }
 
-/// A future as an executor keeps it, with the key of its task, and with the task's flag once there is one.
+/// A future as an executor keeps it, with the flag of its task once there is one.
 #[derive(Drop)]
 pub(crate) struct Pollable<Fut: Drop> {
     pub(crate) future: Fut,
-    key: TaskKey,
     awake: Option<Awake>,
 }
 
 impl<Fut: Drop> Pollable<Fut> {
     /// The future of a task that wasn't polled yet.
-    pub(crate) fn new(future: Fut, key: TaskKey) -> Pollable<Fut> {
+    pub(crate) fn new(future: Fut) -> Pollable<Fut> {
         Pollable {
             future,
-            key,
             awake: None,
         }
     }
@@ -299,18 +297,14 @@ impl<R: Wait + Drop> Waker<R> {
             × Fut.polls taken.future.future Pending back.future.future) }
     {
         let TakenFuture { future: held, task } = taken;
-        let Pollable {
-            mut future,
-            key,
-            awake,
-        } = held;
-        self.begin_poll(key, awake);
+        let Pollable { mut future, awake } = held;
+        self.begin_poll(task.key(), awake);
         let polled = future.poll(&mut Context::from_waker(self));
         let awake = self.end_poll();
         match polled {
             Poll::Ready(output) => Ok((output, FinishedTask { task })),
             Poll::Pending => Err(TakenFuture {
-                future: Pollable { future, key, awake },
+                future: Pollable { future, awake },
                 task,
             }),
         }

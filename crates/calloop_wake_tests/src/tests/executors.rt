@@ -48,7 +48,7 @@ fn a_task_that_is_woken_in_its_poll_is_queued_once_more_behind_the_others(rt: Ho
     let woken = crew.put(&rt, 10);
     let other = crew.put(&rt, 11);
     assert_eq!(rt; (woken.marked, other.marked), (Some(true), Some(false)));
-    let polls = [wakes(woken.key), PENDING, PENDING];
+    let polls = [WOKEN, PENDING, PENDING];
     assert!(rt; crew.serves(&rt, rt.alloc(), &mut desk, &polls, &[10, 11, 10], false));
     assert!(rt; desk.is_quiet(&rt));
     crew.leave(&rt);
@@ -133,29 +133,27 @@ fn each_task_of_a_table_is_queued_once(rt: HostRuntime) {
     assert!(rt; tasks.wake(key));
 }
 
-// What a poll does: it may wake a task, twice, and it may be done.
+// What a poll does: it may wake its task, twice, and it may be done.
 #[derive(Clone, Copy)]
 struct Polled {
-    woken: Option<TaskKey>,
+    woken: bool,
     done: bool,
 }
 
 const PENDING: Polled = Polled {
-    woken: None,
+    woken: false,
+    done: false,
+};
+
+const WOKEN: Polled = Polled {
+    woken: true,
     done: false,
 };
 
 const DONE: Polled = Polled {
-    woken: None,
+    woken: false,
     done: true,
 };
-
-fn wakes(key: TaskKey) -> Polled {
-    Polled {
-        woken: Some(key),
-        done: false,
-    }
-}
 
 // What came of a put: the task's key and whether it set a new mark, if it was put.
 #[derive(Drop)]
@@ -289,10 +287,10 @@ impl Crew {
     }
 
     // One poll of a popped task.
-    fn poll<R: Wait>(&mut self, rt: &R, polled: Polled) -> bool
+    fn poll<R: Wait>(&mut self, rt: &R, key: TaskKey, polled: Polled) -> bool
         ensures { self.new.core.name ≡ self.old.core.name }
     {
-        if let Some(key) = polled.woken {
+        if polled.woken {
             self.wake(rt, key);
             self.wake(rt, key);
         }
@@ -348,11 +346,11 @@ impl Crew {
             assert!(rt; self.core.is_at(&turn));
             finished = match self.core.pop(&mut turn, &mut self.tally, finished) {
                 Some(popped) => {
-                    let home = popped.home();
+                    let (key, home) = (popped.key(), popped.home());
                     self.look(popped);
                     let polled = polls.get(homes.len()).copied().unwrap_or(PENDING);
                     let _ = homes.push(home);
-                    self.poll(rt, polled)
+                    self.poll(rt, key, polled)
                 }
                 None => false,
             };
