@@ -6,9 +6,7 @@ use super::task::{FinishedTask, Pollable};
 use crate::cell::ReceivingEnd;
 use calloop_wake::Receipt;
 use calloop_wake::executor::{ExecutorCore, PutRefusal};
-use calloop_wake::homes::{
-    DueReceipt, Homes, MissedTask, PoppedTask, ReservedPlace, TakenFuture,
-};
+use calloop_wake::homes::{DueReceipt, Homes, MissedTask, PoppedTask, ReservedPlace, TakenFuture};
 use calloop_wake::locked::Locked;
 use std::alloc::Global;
 use std::sync::{Arc, Wait};
