@@ -26,7 +26,7 @@ use calloop_sources::sources::{
 };
 use calloop_sources::timer::{TimeoutAction, Timer};
 use calloop_wake::ghosts::Name;
-use std::alloc::Global;
+use std::alloc::{AllocError, Global};
 use std::mem;
 use std::sync::{Arc, Mutex, Wait};
 use std::time::Duration;
@@ -212,10 +212,9 @@ impl<C: Clock, R: Wait + Clone + Drop> TimeoutFuture<C, R> {
         rt: &R,
         alloc: Global,
         deadline: Option<Instant>,
-    ) -> Result<(TimeoutFuture<C, R>, WakesTimeout<R>)>
-        ensures ok { IfOk result (λ made. (made.0.deadline ≡ deadline)
+    ) -> std::result::Result<(TimeoutFuture<C, R>, WakesTimeout<R>), AllocError>
+        ensures { IfOk result (λ made. (made.0.deadline ≡ deadline)
             × C.is_clone clock.now made.0.clock × IsOf made.0 made.1) }
-        ensures err { IfErr result (λ e. e ≡ OutOfMemory) }
     {
         let parked = Parked {
             rt: rt.clone()?,
