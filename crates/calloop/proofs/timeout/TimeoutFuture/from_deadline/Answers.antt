@@ -9,4 +9,4 @@ returns-in_err-register_dispatcher-clause-err g c =
 
 pub returns-clause-ok : goal.returns-clause-ok
 returns-clause-ok g c =
-    (c.in_ok-future.ensures.ok.0, (c.in_ok-register_dispatcher.field-0, c.in_ok-future.wakes, c.in_ok-future.ensures.ok.2, g.met.D.Keep.placed_means.role _, search rules))
+    (c.in_ok-future.ensures.0, (c.in_ok-register_dispatcher.field-0, c.in_ok-future.wakes, c.in_ok-future.ensures.2, g.met.D.Keep.placed_means.role _, search rules))
