@@ -36,8 +36,9 @@ pub use task::{Blocked, Context, Future, Poll, Waker};
 pub struct Executor<Fut: Drop, R: Wait + Drop> {
     end: ReceivingEnd<ExecutorCore, R>,
     homes: SharedHomes<Fut>,
-    // The waker of the task that is polled: what it is made of isn't made anew for each.
-    waker: Waker<R>,
+    // The waker of the task that is polled: what it is made of isn't made anew for each. In a box, since a loop's slot has
+    // room for its largest source.
+    waker: Box<Waker<R>, Global>,
 }
 
 impl<Fut: Drop, R: Wait + Drop> Model for Executor<Fut, R> {
@@ -69,6 +70,7 @@ pub fn make_executor<Fut: Future<R>, R: Wait + Clone + Drop>(
     let of_executor = share(rt, &homes);
     let (sending, receiving) = make_ends(rt, alloc, locked, right)?;
     let waker = Waker::of_executor(rt.clone()?, share(rt, &receiving.shared), alloc);
+    let waker = Box::new(alloc, waker)?;
     let executor = Executor {
         end: receiving,
         homes: of_executor,

@@ -131,7 +131,9 @@ impl<D: EventDispatcher<P, C, R>, P: Poller, C: Clock, R: Wait + Drop> EventLoop
         Ok(())
     }
 
-    // Gives the first event of the batch to the source that its token names. False if there is no event.
+    // Gives the first event of the batch to the source that its token names. False if there is no event. One loop calls it,
+    // once an event: a call of its own costs an event some twenty instructions.
+    #[inline(always)]
     fn hand_out(&mut self, data: &mut D::Data, failure: &mut Error) -> Result<bool, Failed>
         ensures machine { Goes D.means D.Idle.runs P.outside (Cutting «data».old)
             (after_hand_out (with_error result failure.new) «data».new)
