@@ -310,7 +310,12 @@ impl Batch {
         requires { IfSome pass (λ p. p.board ≡ self.old.watch.name) }
         ensures { self.new ≡ record self.old { pass = pass } }
     {
-        if let Some(other) = mem::replace(&mut self.pass, pass) {
+        let before = match pass {
+            Some(pass) => mem::replace(&mut self.pass, Some(pass)),
+            None if self.pass.is_none() => return,
+            None => self.pass.take(),
+        };
+        if let Some(other) = before {
             self.hub.hub().post(rt, other.back());
         }
     }
