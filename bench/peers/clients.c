@@ -1,5 +1,6 @@
 // Clients of an echo server, in one thread: each sends a line, waits until it came back, and sends the next. Prints how many lines came back
-// within so many seconds, and how many whole microseconds they took, as a line of JSON.
+// within so many seconds, and how many whole microseconds they took, as a line of JSON. With a pause, each waits a while before
+// the next line, up to so many microseconds, whatever the time is then: so what it sends comes at any moment of the server's wait.
 #include "program.h"
 #include <arpa/inet.h>
 #include <errno.h>
@@ -18,6 +19,9 @@
 #define LONGEST 10
 #define PATIENCE 5
 #define BESIDES 7
+
+// In microseconds.
+#define LONGEST_PAUSE 100000
 
 // How many bytes a line has, with the one that ends it: 15 for the client, and 16 for the line's number.
 #define LINE 32
@@ -44,6 +48,9 @@ static uint64_t end;
 
 // Whether a client sends the next line once one came back, and whether what comes back is counted.
 static int is_going, is_counting;
+
+// In nanoseconds: how long a client pauses at most.
+static uint64_t longest_pause;
 
 // How many lines are on their way.
 static uint32_t away;
@@ -82,6 +89,17 @@ static void count_answer(uint64_t nanoseconds) {
     answers++;
 }
 
+// Waits, without sleeping, for a time up to the longest pause, by the same numbers in each run (xorshift).
+static void rest(void) {
+    static uint64_t state = 88172645463325252;
+    state ^= state << 13;
+    state ^= state >> 7;
+    state ^= state << 17;
+    uint64_t began = now(), pause = state % longest_pause;
+    while (now() - began < pause)
+        ;
+}
+
 static void hear(struct client *client) {
     ssize_t got = recv(client->socket, client->answer + client->read, sizeof client->answer - client->read, MSG_DONTWAIT);
     if (got < 0 && (errno == EAGAIN || errno == EINTR))
@@ -99,8 +117,14 @@ static void hear(struct client *client) {
     away--;
     if (is_counting)
         count_answer(moment - client->sent);
-    if (is_going)
+    if (!is_going)
+        return;
+    if (longest_pause == 0) {
         say(client, moment);
+        return;
+    }
+    rest();
+    say(client, now());
 }
 
 // Waits for answers, hears those that came, and answers what time it is then.
@@ -176,8 +200,8 @@ static uint32_t latency_of(uint64_t thousandths) {
 }
 
 int main(int argc, char **argv) {
-    if (argc != 5) {
-        fprintf(stderr, "usage: clients ADDRESS PORT CLIENTS SECONDS\n");
+    if (argc != 5 && argc != 6) {
+        fprintf(stderr, "usage: clients ADDRESS PORT CLIENTS SECONDS [PAUSE]\n");
         return 2;
     }
     if (strcmp(argv[1], "127.0.0.1") != 0) {
@@ -190,6 +214,7 @@ int main(int argc, char **argv) {
         .sin_port = htons((uint16_t)number(argv[2], UINT16_MAX)),
     };
     uint32_t size = number(argv[3], UINT16_MAX), seconds = number(argv[4], LONGEST);
+    longest_pause = argc == 6 ? number(argv[5], LONGEST_PAUSE) * UINT64_C(1000) : 0;
     struct client *clients = many(size, sizeof *clients);
     raise_limit();
     end = now() + (seconds + BESIDES) * SECOND;
